@@ -1,0 +1,2 @@
+-- What a step gives.
+pub mod Answers

@@ -1,0 +1,2 @@
+-- Laws that the loops of the arrival order share.
+pub mod Laws

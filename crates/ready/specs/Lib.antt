@@ -1,0 +1,2 @@
+-- The ready line.
+pub mod Ready

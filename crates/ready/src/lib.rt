@@ -1,0 +1,129 @@
+// The ready line: who joins it, who is released into it, and who of it runs.
+use tables::Line;
+use tables::Place;
+use tables::Process;
+use tables::Tables;
+ghost use mathlib.Core.Path.{_≡_};
+ghost use Rattle.ready.specs.Ready.{
+  placed,
+  withPlace,
+  joins,
+  runnerJoins,
+  releasedTo,
+  released,
+  letThrough,
+  releasedAll,
+  runs,
+  dispatched,
+};
+
+// The process in another place.
+fn placed(process: Process, place: Place) -> Process
+    ensures { λ r. ⌜ r ≡ placed process place ⌝ }
+{
+    Process {
+        priority: process.priority,
+        suspended: process.suspended,
+        place: place,
+    }
+}
+
+// The tables with process p in another place; its position in the order stays.
+fn with_place(t: Tables, p: u8, place: Place) -> Tables
+    ensures { λ r. ⌜ r ≡ withPlace t p place ⌝ }
+{
+    let process = tables::process_at(t, p);
+    tables::with_process(t, p, placed(process, place))
+}
+
+// Process p joins a line: it takes the line's place and is the last to have arrived. Nobody joins no line.
+pub fn joins(t: Tables, p: u8, place: Place) -> Tables
+    ensures { λ r. ⌜ r ≡ joins p place t ⌝ }
+{
+    if p == 0 {
+        return t;
+    }
+    let mut next = with_place(t, p, place);
+    let order = t.order;
+    let moved = arrivals::moved_last(order, p);
+    next.order = moved;
+    next
+}
+
+// The runner joins a line, and nobody runs.
+pub fn runner_joins(t: Tables, place: Place) -> Tables
+    ensures { λ r. ⌜ r ≡ runnerJoins place t ⌝ }
+{
+    let mut next = joins(t, t.running, place);
+    next.running = 0;
+    next
+}
+
+// Where a process goes that is released: to the ready line, or to the parked line if suspended.
+fn released_to(suspended: bool) -> Place
+    ensures { λ r. ⌜ r ≡ releasedTo suspended ⌝ }
+{
+    if suspended {
+        Place::Parked
+    } else {
+        Place::Ready
+    }
+}
+
+// Process p is released.
+pub fn released(t: Tables, p: u8) -> Tables
+    ensures { λ r. ⌜ r ≡ released p t ⌝ }
+{
+    let process = tables::process_at(t, p);
+    joins(t, p, released_to(process.suspended))
+}
+
+// The head of a line is let through.
+pub fn let_through(t: Tables, which: Line) -> Tables
+    ensures { λ r. ⌜ r ≡ letThrough which t ⌝ }
+{
+    released(t, tables::head_of(t, which))
+}
+
+// These processes are released, one after the other.
+pub fn released_all(t: Tables, members: [u8; 32]) -> Tables
+    ensures { λ r. ⌜ r ≡ releasedAll members t ⌝ }
+{
+    let mut next = t;
+    let mut i = 0;
+    while i < 32 {
+        next = released(next, members[i]);
+        i += 1;
+    }
+    next
+}
+
+// Process p runs.
+fn runs(t: Tables, p: u8) -> Tables
+    ensures { λ r. ⌜ r ≡ runs p t ⌝ }
+{
+    let mut next = with_place(t, p, Place::Running);
+    next.running = p;
+    next
+}
+
+// Once at the end of every accepted call: nobody runs and a head is there: it runs; the head is strictly more urgent than
+// the runner: the runner goes to the ready line behind its equals and the head runs.
+pub fn dispatched(t: Tables) -> Tables
+    ensures { λ r. ⌜ r ≡ dispatched t ⌝ }
+{
+    let head = tables::ready_head(t);
+    if head == 0 {
+        return t;
+    }
+    let running = t.running;
+    if running == 0 {
+        return runs(t, head);
+    }
+    let runner = tables::process_at(t, running);
+    let newcomer = tables::process_at(t, head);
+    if newcomer.priority <= runner.priority {
+        return t;
+    }
+    runs(runner_joins(t, Place::Ready), head)
+}

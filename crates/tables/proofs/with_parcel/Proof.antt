@@ -1,0 +1,38 @@
+-- `tables::with_parcel` meets its contract: at 0 and past the end the tables as they were, else with the new one at its number.
+use mathlib.Core.Path.{_≡_, refl, sym, ap}
+use borrow.Author.Needs.{needs}
+use lib.ListN.{length}
+use Rattle.tables.specs.Access.{withParcel}
+use Rattle.basics.specs.Lists.{len-map}
+use Rattle.tables.proofs.Laws.{replaced-zero, replaced-past, replaced-at}
+use Rattle.tables.proofs.with_parcel.Statement.{statement}
+use Rattle.tables.proofs.with_parcel.Tie as tie
+
+returns : tie.Need-returns
+unfolding withParcel
+returns c = rw (replaced-zero _ _ _ (c .if1 .taken))
+
+returns-2 : tie.Need-returns-2
+unfolding withParcel
+returns-2 c =
+    let long : length (c .before .before .args .t .parcels) ≡ 32 = search (len-map, needs) in
+    rw (replaced-past (c .before .before .args .t .parcels) (c .before .before .args .p) _ (search needs))
+
+sub-i : tie.Need-sub-i
+sub-i c = search needs
+
+cast-i : tie.Need-cast-i
+cast-i c = search needs
+
+mul-parcel : tie.Need-mul-parcel
+mul-parcel c = search needs
+
+element-set-from-parcel : tie.Need-element-set-from-parcel
+element-set-from-parcel c = search needs
+
+returns-3 : tie.Need-returns-3
+unfolding withParcel
+returns-3 c = rw (replaced-at (c .before .before .args .t .parcels) (c .before .before .args .p) _ (c .before .if1 .left))
+
+pub with-parcel-spec : {M : Type 1} → statement M
+with-parcel-spec = tie.close (tie.spec returns returns-2 sub-i cast-i mul-parcel element-set-from-parcel returns-3)

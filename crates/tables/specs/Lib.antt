@@ -1,0 +1,4 @@
+-- What the panel holds, in document 01's words.
+pub mod Numbers
+pub mod Access
+pub mod Lines
