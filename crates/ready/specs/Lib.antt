@@ -1,2 +1,3 @@
 -- The ready line.
 pub mod Ready
+pub mod Laws

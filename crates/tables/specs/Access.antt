@@ -6,7 +6,7 @@ use lib.Dec.{eqb}
 use lib.ListN.{getD, set, replicate}
 use Rattle.bay.specs.declared.Ring.{Ring}
 use Rattle.bay.specs.declared.Parcel.{Parcel}
-use Rattle.bay.specs.declared.Holding.the-variants.{Nothing}
+use Rattle.bay.specs.Bay.{emptyBay, emptyParcel}
 use Rattle.tables.specs.declared.Tables.{Tables}
 use Rattle.tables.specs.declared.Process.{Process}
 use Rattle.tables.specs.declared.Place.the-variants.{Nowhere}
@@ -21,18 +21,12 @@ numbered l p d = cond (eqb p 0) d (getD l (p - 1) d)
 unfoldable pub replaced : {A : Type 0} → List A → ℕ → A → List A
 replaced l p x = cond (eqb p 0) l (set l (p - 1) x)
 
--- A number that is not live, a structure that is free, a parcel that holds nothing, a bay that no ring has
+-- A number that is not live, and a structure that is free
 abbrev pub nobody : Process
 nobody = record { priority = 0; suspended = false; place = Nowhere }
 
 abbrev pub nothing : Structure
 nothing = record { kind = Free }
-
-abbrev pub emptyParcel : Parcel
-emptyParcel = record { bytes = replicate 64 0; holds = Nothing }
-
-abbrev pub emptyBay : Ring
-emptyBay = record { bytes = replicate 256 0; start = 0; size = 0; held = 0 }
 
 -- A fresh state has nothing live, running 0, and zero everywhere
 unfoldable pub fresh : Tables
@@ -75,8 +69,8 @@ structureOf t n = numbered (t .structures) n nothing
 unfoldable pub ringIn : Tables → ℕ → Ring
 ringIn t b = numbered (t .rings) b emptyBay
 
-unfoldable pub parcelOf : Tables → ℕ → Parcel
-parcelOf t p = numbered (t .parcels) p emptyParcel
+unfoldable pub parcelFor : Tables → ℕ → Parcel
+parcelFor t p = numbered (t .parcels) p emptyParcel
 
 -- The tables with one of them anew
 unfoldable pub withProcess : Tables → ℕ → Process → Tables

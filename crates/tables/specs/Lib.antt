@@ -2,3 +2,4 @@
 pub mod Numbers
 pub mod Access
 pub mod Lines
+pub mod Laws

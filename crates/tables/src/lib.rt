@@ -1,5 +1,4 @@
 // What the panel holds: processes, structures, ring bays and parcels, and who stands in which line.
-use bay::Holding;
 use bay::Parcel;
 use bay::Ring;
 ghost use mathlib.Core.Path.{_≡_};
@@ -21,13 +20,11 @@ ghost use Rattle.tables.specs.Lines.{
 ghost use Rattle.tables.specs.Access.{
   nobody,
   nothing,
-  emptyParcel,
-  emptyBay,
   fresh,
   processOf,
   structureOf,
   ringIn,
-  parcelOf,
+  parcelFor,
   withProcess,
   withStructure,
   withRing,
@@ -109,28 +106,6 @@ pub fn nothing() -> Structure
     Structure { kind: Kind::Free }
 }
 
-// A parcel that holds nothing.
-pub fn empty_parcel() -> Parcel
-    ensures { λ r. ⌜ r ≡ emptyParcel ⌝ }
-{
-    Parcel {
-        bytes: [0; 64],
-        holds: Holding::Nothing,
-    }
-}
-
-// A bay that no ring has.
-pub fn empty_bay() -> Ring
-    ensures { λ r. ⌜ r ≡ emptyBay ⌝ }
-{
-    Ring {
-        bytes: [0; 256],
-        start: 0,
-        size: 0,
-        held: 0,
-    }
-}
-
 // A fresh state: nothing live, running 0, and zero everywhere.
 pub fn fresh() -> Tables
     ensures { λ r. ⌜ r ≡ fresh ⌝ }
@@ -140,8 +115,8 @@ pub fn fresh() -> Tables
         order: [0; 32],
         processes: [nobody(); 32],
         structures: [nothing(); 24],
-        rings: [empty_bay(); 8],
-        parcels: [empty_parcel(); 32],
+        rings: [bay::empty_bay(); 8],
+        parcels: [bay::empty_parcel(); 32],
     }
 }
 
@@ -178,24 +153,24 @@ pub fn ring_in(t: Tables, b: u8) -> Ring
     ensures { λ r. ⌜ r ≡ ringIn t b ⌝ }
 {
     if b == 0 {
-        return empty_bay();
+        return bay::empty_bay();
     }
     if 8 < b {
-        return empty_bay();
+        return bay::empty_bay();
     }
     let i = (b - 1) as usize;
     t.rings[i]
 }
 
 // The parcel of process p, or an empty one.
-pub fn parcel_of(t: Tables, p: u8) -> Parcel
-    ensures { λ r. ⌜ r ≡ parcelOf t p ⌝ }
+pub fn parcel_for(t: Tables, p: u8) -> Parcel
+    ensures { λ r. ⌜ r ≡ parcelFor t p ⌝ }
 {
     if p == 0 {
-        return empty_parcel();
+        return bay::empty_parcel();
     }
     if 32 < p {
-        return empty_parcel();
+        return bay::empty_parcel();
     }
     let i = (p - 1) as usize;
     t.parcels[i]

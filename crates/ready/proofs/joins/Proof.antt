@@ -1,27 +1,20 @@
+-- `ready::joins` meets its contract: each return is the definition at the tests on the way.
 use Rattle.ready.specs.Ready.{joins, withPlace}
 use borrow.Author.Tests.{eq-eqb, ne-eqb}
 use borrow.Author.Needs.{needs}
 use Rattle.ready.proofs.joins.Statement.{statement}
 use Rattle.ready.proofs.joins.Tie as tie
-use Rattle.ready.proofs.joins.Reads as reads
-use Rattle.ready.proofs.joins.Lts as lts
-use Rattle.arrivals.proofs.moved_last.Reads as moved-last-reads
-use Rattle.ready.proofs.with_place.Reads as with-place-reads
 
--- src/lib.rt:33:9
 returns : tie.Need-returns
 unfolding joins withPlace
 returns c = simp (eq-eqb _ _ (c .if1 .taken))
 
--- src/lib.rt:35:9
 with-place-requires : tie.Need-with-place-requires
 with-place-requires c κs = search needs
 
--- src/lib.rt:37:9
 moved-last-requires : tie.Need-moved-last-requires
 moved-last-requires c κs = search needs
 
--- src/lib.rt:29:1
 returns-2 : tie.Need-returns-2
 unfolding joins withPlace
 returns-2 c = simp (ne-eqb _ _ (c .before .before .before .if1 .left), ← c .moved-last .ensures, ← c .before .before .with-place .ensures)

@@ -1,3 +1,4 @@
+-- `ready::released_all` meets its contract: each return is the definition at the tests on the way.
 use Prim.Native.Nat.{_≤_, _-_}
 use mathlib.Core.Path.{_≡_, refl, sym, _∙_}
 use lib.ListN.{drop, length}
@@ -8,9 +9,6 @@ use Rattle.ready.proofs.Laws.{one-more, no-more}
 use Rattle.ready.specs.Ready.{releasedAll}
 use Rattle.ready.proofs.released_all.Statement.{statement}
 use Rattle.ready.proofs.released_all.Tie as tie
-use Rattle.ready.proofs.released_all.Reads as reads
-use Rattle.ready.proofs.released_all.Lts as lts
-use Rattle.ready.proofs.released.Reads as released-reads
 
 abbrev Inv-loop : tie.InvT-loop
 Inv-loop members next₀ i₀ next i = (i ≤ 32) × (releasedAll (drop i members) next ≡ releasedAll members next₀)
@@ -18,33 +16,26 @@ Inv-loop members next₀ i₀ next i = (i ≤ 32) × (releasedAll (drop i member
 abbrev μ-loop : tie.MeasureT-loop
 μ-loop members next₀ i₀ next i = 32 - i
 
--- src/lib.rt:79:5
 loop-holds : tie.Need-loop-holds Inv-loop μ-loop
 loop-holds c = (search needs, refl)
 
--- src/lib.rt:80:31
 array-read-released : tie.Need-array-read-released Inv-loop μ-loop
 array-read-released c = search needs
 
--- src/lib.rt:80:9
 released-requires : tie.Need-released-requires Inv-loop μ-loop
 released-requires c κs = search needs
 
--- src/lib.rt:81:9
 add-i : tie.Need-add-i Inv-loop μ-loop
 add-i c = search needs
 
--- src/lib.rt:79:5
 loop-less : tie.Need-loop-less Inv-loop μ-loop
 loop-less c = search needs
 
--- src/lib.rt:79:5
 loop-again : tie.Need-loop-again Inv-loop μ-loop
 loop-again c =
     let long : length (c .before .before .before .args .t2) ≡ 32 = search (len-map, needs) in
     (search needs, one-more (c .before .before .before .args .t2) (c .before .before .loop .i) _ _ (omega arith) (c .released .ensures) ∙ c .before .before .loop .inv .1)
 
--- src/lib.rt:74:1
 returns : tie.Need-returns Inv-loop μ-loop
 returns c =
     let long : length (c .before .before .args .t2) ≡ 32 = search (len-map, needs) in

@@ -1,20 +1,15 @@
-use Prim.Native.Nat.{_≤_, _-_, _+_}
-use mathlib.Core.Bool.{cond}
-use mathlib.Core.List.{_∷_}
-use mathlib.Core.Path.{_≡_, refl, sym, _∙_}
-use lib.ListN.{drop, length, getD}
+-- `tables::head_of` meets its contract: each return is the definition at the tests on the way.
+use Prim.Native.Nat.{_≤_, _-_}
+use mathlib.Core.Path.{_≡_, refl}
+use lib.ListN.{drop, length}
 use borrow.Author.Needs.{needs}
 use native.Mathlib.Omega.{arith}
 use Rattle.arrivals.specs.Order.{keep, first}
 use Rattle.tables.specs.Lines.{standing, stands, line}
 use Rattle.basics.specs.Lists.{len-map}
-use Rattle.tables.proofs.Laws.{seen, nowhere, Left, turn, keep-end}
+use Rattle.tables.proofs.Laws.{nowhere, Left, turn, keep-end}
 use Rattle.tables.proofs.head_of.Statement.{statement}
 use Rattle.tables.proofs.head_of.Tie as tie
-use Rattle.tables.proofs.head_of.Reads as reads
-use Rattle.tables.proofs.head_of.Lts as lts
-use Rattle.tables.proofs.entry_of.Reads as entry-of-reads
-use Rattle.tables.proofs.stands_in.Reads as stands-in-reads
 
 abbrev Inv-loop : tie.InvT-loop
 Inv-loop which t i₀ i = (i ≤ 32) × (first (keep (standing which (t .processes)) (drop i (t .order))) ≡ first (line which t))
@@ -36,43 +31,33 @@ loop-holds : tie.Need-loop-holds Inv-loop μ-loop
 unfolding line
 loop-holds c = (search needs, refl)
 
--- src/lib.rt:363:17
 element-copy-out-x : tie.Need-element-copy-out-x Inv-loop μ-loop
 element-copy-out-x c = search needs
 
--- src/lib.rt:364:33
 entry-of-requires : tie.Need-entry-of-requires Inv-loop μ-loop
 entry-of-requires c κs = search needs
 
--- src/lib.rt:364:21
 mul-entry : tie.Need-mul-entry Inv-loop μ-loop
 mul-entry c = search needs
 
--- src/lib.rt:364:21
 element-copy-out-entry : tie.Need-element-copy-out-entry Inv-loop μ-loop
 element-copy-out-entry c = search needs
 
--- src/lib.rt:366:12
 stands-in-requires : tie.Need-stands-in-requires Inv-loop μ-loop
 stands-in-requires c κs = search needs
 
--- src/lib.rt:367:13
 returns : tie.Need-returns Inv-loop μ-loop
 returns c = rw (left (c .before), c .if1 .taken) at (c .before .before .before .before .before .before .loop .inv .1)
 
--- src/lib.rt:369:9
 add-i : tie.Need-add-i Inv-loop μ-loop
 add-i c = search needs
 
--- src/lib.rt:362:5
 loop-less : tie.Need-loop-less Inv-loop μ-loop
 loop-less c = search needs
 
--- src/lib.rt:362:5
 loop-again : tie.Need-loop-again Inv-loop μ-loop
 loop-again c = (search needs, rw (left (c .before), c .if1 .left) at (c .before .before .before .before .before .before .loop .inv .1))
 
--- src/lib.rt:358:1
 returns-2 : tie.Need-returns-2 Inv-loop μ-loop
 returns-2 c =
     let order : length (c .before .before .args .t1 .order) ≡ 32 = search (len-map, needs) in

@@ -1,22 +1,17 @@
-use Prim.Native.Nat.{_≤_, _-_, _+_}
-use mathlib.Core.Bool.{cond}
-use mathlib.Core.List.{[], _∷_, _++_}
-use mathlib.Core.Path.{_≡_, refl, sym, _∙_}
+-- `tables::line_of` meets its contract: each return is the definition at the tests on the way.
+use Prim.Native.Nat.{_≤_, _-_}
+use mathlib.Core.Path.{_≡_, refl}
 use mathlib.Core.Logic.{⊎-elim}
-use lib.ListN.{drop, take, length, getD, replicate}
+use lib.ListN.{drop, length}
 use borrow.Author.Needs.{needs}
 use native.Mathlib.Omega.{arith}
-use Rattle.arrivals.specs.Order.{keep, first}
+use Rattle.arrivals.specs.Order.{keep}
 use Rattle.tables.specs.declared.Line.the-variants as lines
-use Rattle.tables.specs.Lines.{standing, stands, line, waitingAt, waitsAt, inLinesOf, urgency, better, readyLine, padded}
+use Rattle.tables.specs.Lines.{standing, stands, line}
 use Rattle.basics.specs.Lists.{len-map}
-use Rattle.tables.proofs.Laws.{seen, nowhere, Left, turn, keep-end, Front, written, filled}
+use Rattle.tables.proofs.Laws.{nowhere, Left, turn, keep-end, Front, written, filled}
 use Rattle.tables.proofs.line_of.Statement.{statement}
 use Rattle.tables.proofs.line_of.Tie as tie
-use Rattle.tables.proofs.line_of.Reads as reads
-use Rattle.tables.proofs.line_of.Lts as lts
-use Rattle.tables.proofs.entry_of.Reads as entry-of-reads
-use Rattle.tables.proofs.stands_in.Reads as stands-in-reads
 
 abbrev Inv-loop : tie.InvT-loop
 Inv-loop which t members₀ k₀ i₀ members k i =
@@ -39,43 +34,33 @@ loop-holds : tie.Need-loop-holds Inv-loop μ-loop
 unfolding line
 loop-holds c = (search needs, search needs, record { long = refl; listed = refl; zeros = refl })
 
--- src/lib.rt:382:17
 element-copy-out-x : tie.Need-element-copy-out-x Inv-loop μ-loop
 element-copy-out-x c = search needs
 
--- src/lib.rt:383:33
 entry-of-requires : tie.Need-entry-of-requires Inv-loop μ-loop
 entry-of-requires c κs = search needs
 
--- src/lib.rt:383:21
 mul-entry : tie.Need-mul-entry Inv-loop μ-loop
 mul-entry c = search needs
 
--- src/lib.rt:383:21
 element-copy-out-entry : tie.Need-element-copy-out-entry Inv-loop μ-loop
 element-copy-out-entry c = search needs
 
--- src/lib.rt:385:12
 stands-in-requires : tie.Need-stands-in-requires Inv-loop μ-loop
 stands-in-requires c κs = search needs
 
--- src/lib.rt:386:13
 array-write-members : tie.Need-array-write-members Inv-loop μ-loop
 array-write-members c = search needs
 
--- src/lib.rt:387:13
 add-k : tie.Need-add-k Inv-loop μ-loop
 add-k c = search needs
 
--- src/lib.rt:389:9
 add-i : tie.Need-add-i Inv-loop μ-loop
 add-i c = search needs
 
--- src/lib.rt:381:5
 loop-less : tie.Need-loop-less Inv-loop μ-loop
 loop-less c = search needs
 
--- src/lib.rt:381:5
 loop-again : tie.Need-loop-again Inv-loop μ-loop
 loop-again c =
     let known = c .before .before .before .before .before .before .loop .inv in
@@ -84,7 +69,6 @@ loop-again c =
     (λ w. (search needs, omega arith, rw (w .1, w .2) (rw (left (c .before), w .0 .left) at (known .2))))
     (c .if1 .came)
 
--- src/lib.rt:375:1
 returns : tie.Need-returns Inv-loop μ-loop
 returns c =
     let order : length (c .before .before .args .t1 .order) ≡ 32 = search (len-map, needs) in

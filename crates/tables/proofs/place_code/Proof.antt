@@ -1,3 +1,4 @@
+-- `tables::place_code` meets its contract: each return is the definition at the tests on the way.
 use Rattle.tables.specs.Numbers.{placeCode}
 use borrow.Author.Tests.{le-leb, le-ltb, lt-leb, lt-ltb}
 use borrow.Author.Needs.{needs}
@@ -5,29 +6,21 @@ use native.Mathlib.Omega.{arith}
 use Rattle.tables.proofs.Laws.{small}
 use Rattle.tables.proofs.place_code.Statement.{statement}
 use Rattle.tables.proofs.place_code.Tie as tie
-use Rattle.tables.proofs.place_code.Reads as reads
-use Rattle.tables.proofs.place_code.Lts as lts
-use Rattle.tables.proofs.code_of.Reads as code-of-reads
 
--- src/lib.rt:285:9
 code-of-requires : tie.Need-code-of-requires
 code-of-requires c κs = search needs
 
--- src/lib.rt:288:20
 add-result : tie.Need-add-result
 add-result c = omega (arith, small (c .before .before .before .args .process .place), c .before .before .code-of .ensures)
 
--- src/lib.rt:288:13
 returns : tie.Need-returns
 unfolding placeCode
 returns c = simp (le-leb _ _ (c .if2 .taken), le-ltb _ _ (c .if2 .taken), c .before .if1 .taken, ← c .before .before .code-of .ensures)
 
--- src/lib.rt:281:1
 returns-2 : tie.Need-returns-2
 unfolding placeCode
 returns-2 c = simp (lt-ltb _ _ (c .if2 .left), lt-leb _ _ (c .if2 .left), c .before .if1 .taken, ← c .before .before .code-of .ensures)
 
--- src/lib.rt:281:1
 returns-3 : tie.Need-returns-3
 unfolding placeCode
 returns-3 c = simp (c .if1 .left, ← c .before .code-of .ensures)

@@ -1,23 +1,19 @@
+-- `tables::ready_head` meets its contract: each return is the definition at the tests on the way.
 use Prim.Native.Nat.{_≤_, _-_, _+_}
-use mathlib.Core.Bool.{cond}
-use mathlib.Core.List.{[], _∷_, _++_}
-use mathlib.Core.Path.{_≡_, refl, sym, _∙_}
+use mathlib.Core.List.{[]}
+use mathlib.Core.Path.{_≡_, sym, _∙_}
 use mathlib.Core.Logic.{⊎-elim}
-use lib.ListN.{drop, take, length, getD, replicate}
+use lib.ListN.{drop, length, getD}
 use borrow.Author.Needs.{needs}
 use native.Mathlib.Omega.{arith}
 use Rattle.arrivals.specs.Order.{keep, first}
 use Rattle.tables.specs.declared.Line.the-variants as lines
-use Rattle.tables.specs.Lines.{standing, stands, line, waitingAt, waitsAt, inLinesOf, better, readyLine, padded}
+use Rattle.tables.specs.Lines.{standing, stands, line, better, readyLine}
 use Rattle.basics.specs.Lists.{len-map}
-use Rattle.tables.proofs.Laws.{seen, nowhere, Left, turn, keep-end, urgency-entry, better-later, better-earlier, urgency-nobody, urgency-some, head-better}
+use Rattle.tables.proofs.Laws.{nowhere, Left, turn, keep-end, urgency-entry, better-later, better-earlier, urgency-nobody, urgency-some, head-better}
 use Rattle.tables.specs.Lines as tables
 use Rattle.tables.proofs.ready_head.Statement.{statement}
 use Rattle.tables.proofs.ready_head.Tie as tie
-use Rattle.tables.proofs.ready_head.Reads as reads
-use Rattle.tables.proofs.ready_head.Lts as lts
-use Rattle.tables.proofs.entry_of.Reads as entry-of-reads
-use Rattle.tables.proofs.stands_in.Reads as stands-in-reads
 
 abbrev Inv-loop : tie.InvT-loop
 Inv-loop t head₀ urgency₀ i₀ head urgency i =
@@ -42,43 +38,33 @@ loop-holds c =
     let ps = c .args .t1 .processes in
     (search needs, sym (urgency-nobody ps), sym (head-better (tables.urgency ps) (urgency-nobody ps) (urgency-some ps) [] (keep (standing lines.Ready ps) (c .args .t1 .order))))
 
--- src/lib.rt:440:17
 element-copy-out-x : tie.Need-element-copy-out-x Inv-loop μ-loop
 element-copy-out-x c = search needs
 
--- src/lib.rt:441:33
 entry-of-requires : tie.Need-entry-of-requires Inv-loop μ-loop
 entry-of-requires c κs = search needs
 
--- src/lib.rt:441:21
 mul-entry : tie.Need-mul-entry Inv-loop μ-loop
 mul-entry c = search needs
 
--- src/lib.rt:441:21
 element-copy-out-entry : tie.Need-element-copy-out-entry Inv-loop μ-loop
 element-copy-out-entry c = search needs
 
--- src/lib.rt:443:12
 stands-in-requires : tie.Need-stands-in-requires Inv-loop μ-loop
 stands-in-requires c κs = search needs
 
--- src/lib.rt:444:23
 cast-its : tie.Need-cast-its Inv-loop μ-loop
 cast-its c = search needs
 
--- src/lib.rt:444:23
 add-its : tie.Need-add-its Inv-loop μ-loop
 add-its c = search needs
 
--- src/lib.rt:450:9
 add-i : tie.Need-add-i Inv-loop μ-loop
 add-i c = search needs
 
--- src/lib.rt:439:5
 loop-less : tie.Need-loop-less Inv-loop μ-loop
 loop-less c = search needs
 
--- src/lib.rt:439:5
 loop-again : tie.Need-loop-again Inv-loop μ-loop
 loop-again c =
     let known = c .before .before .before .before .before .before .loop .inv in
@@ -99,7 +85,6 @@ loop-again c =
     (λ w. (search needs, rw (w .1, w .2) (known .1), rw (w .1) (rw (left (c .before), w .0 .left) at (known .2)))))
     (c .if1 .came)
 
--- src/lib.rt:433:1
 returns : tie.Need-returns Inv-loop μ-loop
 returns c =
     let order : length (c .before .before .args .t1 .order) ≡ 32 = search (len-map, needs) in

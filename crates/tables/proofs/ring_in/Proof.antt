@@ -2,7 +2,8 @@
 use mathlib.Core.Path.{_≡_, sym, _∙_}
 use borrow.Author.Needs.{needs}
 use lib.ListN.{length}
-use Rattle.tables.specs.Access.{ringIn, emptyBay}
+use Rattle.tables.specs.Access.{ringIn}
+use Rattle.bay.specs.Bay.{emptyBay}
 use Rattle.basics.specs.Lists.{len-map}
 use Rattle.tables.proofs.Laws.{numbered-zero, numbered-past, numbered-at}
 use Rattle.tables.proofs.ring_in.Statement.{statement}

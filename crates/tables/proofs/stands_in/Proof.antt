@@ -1,47 +1,34 @@
+-- `tables::stands_in` meets its contract: each return is the definition at the tests on the way.
 use Rattle.tables.specs.Lines.{isNumber, stands}
 use borrow.Author.Tests.{eq-eqb, le-leb, le-ltb, lt-leb, lt-ltb, ne-eqb}
 use borrow.Author.Needs.{needs}
 use Rattle.tables.proofs.stands_in.Statement.{statement}
 use Rattle.tables.proofs.stands_in.Tie as tie
-use Rattle.tables.proofs.stands_in.Reads as reads
-use Rattle.tables.proofs.stands_in.Lts as lts
-use Rattle.tables.proofs.code_of.Reads as code-of-reads
-use Rattle.tables.proofs.line_code.Reads as line-code-reads
-use Rattle.tables.proofs.line_spot.Reads as line-spot-reads
-use Rattle.tables.proofs.spot_of.Reads as spot-of-reads
 
--- src/lib.rt:346:9
 returns : tie.Need-returns
 unfolding isNumber stands
 returns c = simp (eq-eqb _ _ (c .if1 .taken))
 
--- src/lib.rt:349:9
 returns-2 : tie.Need-returns-2
 unfolding isNumber stands
 returns-2 c = simp (lt-ltb _ _ (c .if2 .taken), lt-leb _ _ (c .if2 .taken), ne-eqb _ _ (c .before .if1 .left))
 
--- src/lib.rt:351:8
 code-of-requires : tie.Need-code-of-requires
 code-of-requires c κs = search needs
 
--- src/lib.rt:351:26
 line-code-requires : tie.Need-line-code-requires
 line-code-requires c κs = search needs
 
--- src/lib.rt:352:9
 returns-3 : tie.Need-returns-3
 unfolding isNumber stands
 returns-3 c = simp (ne-eqb _ _ (c .if3 .taken), le-leb _ _ (c .before .before .before .if2 .left), le-ltb _ _ (c .before .before .before .if2 .left), ne-eqb _ _ (c .before .before .before .before .if1 .left), ← c .before .line-code .ensures, ← c .before .before .code-of .ensures)
 
--- src/lib.rt:354:5
 spot-of-requires : tie.Need-spot-of-requires
 spot-of-requires c κs = search needs
 
--- src/lib.rt:354:23
 line-spot-requires : tie.Need-line-spot-requires
 line-spot-requires c κs = search needs
 
--- src/lib.rt:342:1
 returns-4 : tie.Need-returns-4
 unfolding isNumber stands
 returns-4 c = simp (eq-eqb _ _ (c .before .before .if3 .left), le-leb _ _ (c .before .before .before .before .before .if2 .left), le-ltb _ _ (c .before .before .before .before .before .if2 .left), ne-eqb _ _ (c .before .before .before .before .before .before .if1 .left), ← c .line-spot .ensures, ← c .before .spot-of .ensures, ← c .before .before .before .line-code .ensures, ← c .before .before .before .before .code-of .ensures)

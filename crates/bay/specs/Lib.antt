@@ -1,0 +1,3 @@
+pub mod Round
+pub mod Bay
+pub mod Laws
