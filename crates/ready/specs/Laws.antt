@@ -16,9 +16,9 @@ use Rattle.tables.specs.declared.Place.{Place}
 use Rattle.tables.specs.declared.Place.the-variants.{Running, Ready}
 use Rattle.tables.specs.declared.Line.{Line}
 use Rattle.tables.specs.declared.Line.the-variants as lines
-use Rattle.tables.specs.Access.{processOf, withProcess, replaced, nobody}
+use Rattle.tables.specs.Access.{processOf, withProcess, withRunning, replaced, nobody}
 use Rattle.tables.specs.Lines.{line, stands, standing, readyLine}
-use Rattle.tables.specs.Laws.{replaced-same, replaced-other}
+use Rattle.tables.specs.Laws.{replaced-same, replaced-other, replaced-unseen}
 use Rattle.ready.specs.Ready.{placed, withPlace, joins, runnerJoins, releasedTo, released, runs, dispatched, dispatchedTo}
 
 -- Process p joins a line of those in this place; p is live and listed once
@@ -52,3 +52,85 @@ module _ (p : ℕ) (place : Place) (t : Tables) (some : p ≡ 0 → ⊥) (known 
   pub joins-stays : (x : Line) → stands x (processOf t p .place) ≡ false → stands x place ≡ false → line x (joins p place t) ≡ line x t
   unfolding line joins withPlace withProcess processOf before after
   joins-stays x was is = rw (ne-eqb p 0 some) (stays-moved (before x) (after x) p (agree x) (t .order) was (now-at x ∙ is))
+
+-- A release takes a process out of every line but the ready and the parked one ..
+pub release-leaves : (p : ℕ) (t : Tables) → (p ≡ 0 → ⊥) → p ≤ length (t .processes) → count p (t .order) ≡ 1 → (x : Line) → ((b : Bool) → stands x (releasedTo b) ≡ false) → line x (released p t) ≡ without p (line x t)
+unfolding released
+release-leaves p t some known once x apart = joins-leaves p _ t some known once x (apart (processOf t p .suspended))
+
+-- .. and puts it last into the one of these two where it then stands
+pub release-enters : (p : ℕ) (t : Tables) → (p ≡ 0 → ⊥) → p ≤ length (t .processes) → count p (t .order) ≡ 1 → (x : Line) → stands x (processOf t p .place) ≡ false → stands x (releasedTo (processOf t p .suspended)) ≡ true → line x (released p t) ≡ line x t ++ (p ∷ [])
+unfolding released
+release-enters p t some known once x was is = joins-enters p _ t some known once x was is
+
+-- Suspended it is in the parked line, else in the ready line
+pub released-stands : (b : Bool) → stands (cond b lines.Parked lines.Ready) (releasedTo b) ≡ true
+unfolding stands
+released-stands true = refl
+released-stands false = refl
+
+-- ---- what stays
+
+-- Between t and u at most the places of p and of q, the order's sequence and the runner differ
+pub record OnlyPlaces (p q : ℕ) (t u : Tables) : Type 0 where
+  pub structures : u .structures ≡ t .structures
+  pub rings : u .rings ≡ t .rings
+  pub parcels : u .parcels ≡ t .parcels
+  pub listed : (x : ℕ) → count x (u .order) ≡ count x (t .order)
+  pub places : (x : ℕ) → (x ≡ p → ⊥) → (x ≡ q → ⊥) → processOf u x ≡ processOf t x
+  pub rest : (x : ℕ) → placed (processOf u x) Ready ≡ placed (processOf t x) Ready
+
+only-none : (p q : ℕ) (t : Tables) → OnlyPlaces p q t t
+only-none p q t = record { structures = refl; rings = refl; parcels = refl; listed = λ x. refl; places = λ x a b. refl; rest = λ x. refl }
+
+-- A place is all that a new place changes
+place-rest : (p x : ℕ) (place : Place) (t : Tables) → placed (processOf (withPlace t p place) x) Ready ≡ placed (processOf t x) Ready
+unfolding withPlace withProcess processOf
+place-rest p x place t = replaced-unseen (t .processes) p (placed (processOf t p) place) (λ q. placed q Ready) nobody refl x
+
+only-runs : (p h : ℕ) (t u : Tables) → OnlyPlaces p h t u → OnlyPlaces p h t (runs h u)
+unfolding runs withPlace withProcess processOf
+only-runs p h t u o =
+    record {
+      structures = o .structures; rings = o .rings; parcels = o .parcels; listed = o .listed;
+      places = λ x a b. replaced-other (u .processes) h (placed (processOf u h) Running) x nobody b ∙ o .places x a b;
+      rest = λ x. place-rest h x Running u ∙ o .rest x
+    }
+
+only-joins : (p h : ℕ) (place : Place) (t : Tables) → OnlyPlaces p h t (joins p place t)
+unfolding joins withPlace withProcess processOf
+only-joins p h place t =
+    elim (test (eqb p 0)) [
+      holds z ↦ rw z (only-none p h t)
+    | fails z ↦
+        rw z (record {
+          structures = refl; rings = refl; parcels = refl;
+          listed = λ x. count-moved x p (t .order);
+          places = λ x a b. replaced-other (t .processes) p (placed (processOf t p) place) x nobody a;
+          rest = λ x. place-rest p x place t
+        })
+    ]
+
+only-running : (p h r : ℕ) (t u : Tables) → OnlyPlaces p h t u → OnlyPlaces p h t (withRunning u r)
+unfolding processOf
+only-running p h r t u o =
+    record { structures = o .structures; rings = o .rings; parcels = o .parcels; listed = o .listed; places = o .places; rest = o .rest }
+
+-- Dispatched changes nothing but the runner's and the head's place, the order and who runs
+pub dispatched-only : (t : Tables) → OnlyPlaces (t .running) (first (readyLine t)) t (dispatched t)
+unfolding dispatched dispatchedTo runnerJoins
+dispatched-only t =
+    let h = first (readyLine t) in
+    let p = t .running in
+    elim (test (eqb h 0)) [
+      holds a ↦ rw a (only-none p h t)
+    | fails a ↦
+        elim (test (eqb p 0)) [
+          holds b ↦ rw (a, b) (only-runs p h t t (only-none p h t))
+        | fails b ↦
+            elim (test (leb (processOf t h .priority) (processOf t p .priority))) [
+              holds k ↦ rw (a, b, k) (only-none p h t)
+            | fails k ↦ rw (a, b, k) (only-runs p h t (runnerJoins Ready t) (only-running p h 0 t (joins p Ready t) (only-joins p h Ready t)))
+            ]
+        ]
+    ]

@@ -1,4 +1,4 @@
--- What `numbered` and `replaced` are at 0, past the end, and at a number in between; a list's length where its image's is known.
+-- What the loops over the order see, and a line written to the front of zeros.
 use Prim.Native.Nat.{ℕ, zero, suc, _+_, _-_, _%_, _≤_, _<_}
 use mathlib.Core.Path.{_≡_, refl, sym, ap, _∙_}
 use mathlib.Core.Bool.{Bool, true, false, cond, true≢false}
@@ -17,34 +17,10 @@ use Rattle.tables.specs.declared.Place.{Place}
 use Rattle.tables.specs.declared.Place.the-variants.{Nowhere, Running, Ready, Parked, Waiting, Getting, Putting, Asleep}
 use Rattle.tables.specs.declared.Line.{Line}
 use Rattle.tables.specs.declared.Line.the-variants as lines
+use Rattle.tables.specs.Laws.{numbered-zero, numbered-past, numbered-at}
 use Rattle.tables.specs.Numbers.{code}
 use Rattle.tables.specs.Access.{numbered, replaced, nobody}
 use Rattle.tables.specs.Lines.{isNumber, stands, waitsAt, urgency, behindEquals, byUrgency, better, padded}
-
-module _ {A : Type 0} (l : List A) (p : ℕ) where
-  pub numbered-zero : (d : A) → p ≡ 0 → numbered l p d ≡ d
-  unfolding numbered
-  numbered-zero d e = rw (eq-eqb p 0 e)
-
-  pub numbered-past : (d : A) → length l < p → numbered l p d ≡ d
-  unfolding numbered
-  numbered-past d h = rw (ne-eqb p 0 (omega arith)) (List·getD-eq-default l d {n = p - 1} (omega arith))
-
-  pub numbered-at : (d e : A) → (p ≡ 0 → ⊥) → p ≤ length l → numbered l p d ≡ getD l (p - 1) e
-  unfolding numbered
-  numbered-at d e z h = rw (ne-eqb p 0 z) (getD-any l (p - 1) d e (omega arith))
-
-  pub replaced-zero : (x : A) → p ≡ 0 → replaced l p x ≡ l
-  unfolding replaced
-  replaced-zero x e = rw (eq-eqb p 0 e)
-
-  pub replaced-past : (x : A) → length l < p → replaced l p x ≡ l
-  unfolding replaced
-  replaced-past x h = rw (ne-eqb p 0 (omega arith)) (set-out l (p - 1) x (omega arith))
-
-  pub replaced-at : (x : A) → (p ≡ 0 → ⊥) → replaced l p x ≡ set l (p - 1) x
-  unfolding replaced
-  replaced-at x z = rw (ne-eqb p 0 z)
 
 -- The places have numbers up to 7
 pub small : (x : Place) → code x ≤ 7

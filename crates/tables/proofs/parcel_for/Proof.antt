@@ -5,7 +5,7 @@ use lib.ListN.{length}
 use Rattle.tables.specs.Access.{parcelFor}
 use Rattle.bay.specs.Bay.{emptyParcel}
 use Rattle.basics.specs.Lists.{len-map}
-use Rattle.tables.proofs.Laws.{numbered-zero, numbered-past, numbered-at}
+use Rattle.tables.specs.Laws.{numbered-zero, numbered-past, numbered-at}
 use Rattle.tables.proofs.parcel_for.Statement.{statement}
 use Rattle.tables.proofs.parcel_for.Tie as tie
 

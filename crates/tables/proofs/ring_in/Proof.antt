@@ -5,7 +5,7 @@ use lib.ListN.{length}
 use Rattle.tables.specs.Access.{ringIn}
 use Rattle.bay.specs.Bay.{emptyBay}
 use Rattle.basics.specs.Lists.{len-map}
-use Rattle.tables.proofs.Laws.{numbered-zero, numbered-past, numbered-at}
+use Rattle.tables.specs.Laws.{numbered-zero, numbered-past, numbered-at}
 use Rattle.tables.proofs.ring_in.Statement.{statement}
 use Rattle.tables.proofs.ring_in.Tie as tie
 

@@ -4,7 +4,7 @@ use borrow.Author.Needs.{needs}
 use lib.ListN.{length}
 use Rattle.tables.specs.Access.{withStructure}
 use Rattle.basics.specs.Lists.{len-map}
-use Rattle.tables.proofs.Laws.{replaced-zero, replaced-past, replaced-at}
+use Rattle.tables.specs.Laws.{replaced-zero, replaced-past, replaced-at}
 use Rattle.tables.proofs.with_structure.Statement.{statement}
 use Rattle.tables.proofs.with_structure.Tie as tie
 
