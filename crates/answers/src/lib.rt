@@ -2,7 +2,7 @@
 use tables::Tables;
 ghost use mathlib.Core.Path.{_≡_};
 ghost use lib.ListN.{replicate};
-ghost use Rattle.answers.specs.Answers.{answer, outcomeNumber};
+ghost use Rattle.answers.specs.Answers.{answer, plain, step, outcomeNumber};
 
 // Done, not performed, or the caller now waits or sleeps.
 pub enum Outcome {
@@ -48,4 +48,12 @@ pub fn with_numbers(outcome: Outcome, n: u8, l: u8, m: u32) -> Answer
         m: m,
         bytes: [0; 64],
     }
+}
+
+// These tables, and an answer that is the outcome alone.
+pub fn plainly(t: Tables, outcome: Outcome) -> Step
+    ensures { λ r. ⌜ r ≡ step t (plain outcome) ⌝ }
+{
+    let answer = with_numbers(outcome, 0, 0, 0);
+    Step { tables: t, answer }
 }

@@ -92,23 +92,28 @@ only-runs : (p h : ℕ) (t u : Tables) → OnlyPlaces p h t u → OnlyPlaces p h
 unfolding runs withPlace withProcess processOf
 only-runs p h t u o =
     record {
-      structures = o .structures; rings = o .rings; parcels = o .parcels; listed = o .listed;
+      structures = o .structures;
+      rings = o .rings;
+      parcels = o .parcels;
+      listed = o .listed;
       places = λ x a b. replaced-other (u .processes) h (placed (processOf u h) Running) x nobody b ∙ o .places x a b;
-      rest = λ x. place-rest h x Running u ∙ o .rest x
+      rest = λ x. place-rest h x Running u ∙ o .rest x;
     }
 
 only-joins : (p h : ℕ) (place : Place) (t : Tables) → OnlyPlaces p h t (joins p place t)
 unfolding joins withPlace withProcess processOf
 only-joins p h place t =
     elim (test (eqb p 0)) [
-      holds z ↦ rw z (only-none p h t)
-    | fails z ↦
-        rw z (record {
-          structures = refl; rings = refl; parcels = refl;
-          listed = λ x. count-moved x p (t .order);
-          places = λ x a b. replaced-other (t .processes) p (placed (processOf t p) place) x nobody a;
-          rest = λ x. place-rest p x place t
-        })
+      | holds z ↦ rw z (only-none p h t)
+      | fails z ↦
+          rw z (record {
+            structures = refl;
+            rings = refl;
+            parcels = refl;
+            listed = λ x. count-moved x p (t .order);
+            places = λ x a b. replaced-other (t .processes) p (placed (processOf t p) place) x nobody a;
+            rest = λ x. place-rest p x place t;
+          })
     ]
 
 only-running : (p h r : ℕ) (t u : Tables) → OnlyPlaces p h t u → OnlyPlaces p h t (withRunning u r)
@@ -123,14 +128,14 @@ dispatched-only t =
     let h = first (readyLine t) in
     let p = t .running in
     elim (test (eqb h 0)) [
-      holds a ↦ rw a (only-none p h t)
-    | fails a ↦
-        elim (test (eqb p 0)) [
-          holds b ↦ rw (a, b) (only-runs p h t t (only-none p h t))
-        | fails b ↦
-            elim (test (leb (processOf t h .priority) (processOf t p .priority))) [
-              holds k ↦ rw (a, b, k) (only-none p h t)
-            | fails k ↦ rw (a, b, k) (only-runs p h t (runnerJoins Ready t) (only-running p h 0 t (joins p Ready t) (only-joins p h Ready t)))
-            ]
-        ]
+      | holds a ↦ rw a (only-none p h t)
+      | fails a ↦
+          elim (test (eqb p 0)) [
+            | holds b ↦ rw (a, b) (only-runs p h t t (only-none p h t))
+            | fails b ↦
+                elim (test (leb (processOf t h .priority) (processOf t p .priority))) [
+                  | holds k ↦ rw (a, b, k) (only-none p h t)
+                  | fails k ↦ rw (a, b, k) (only-runs p h t (runnerJoins Ready t) (only-running p h 0 t (joins p Ready t) (only-joins p h Ready t)))
+                ]
+          ]
     ]

@@ -18,7 +18,7 @@ ghost use Rattle.ready.specs.Ready.{
 };
 
 // The process in another place.
-fn placed(process: Process, place: Place) -> Process
+pub fn placed(process: Process, place: Place) -> Process
     ensures { λ r. ⌜ r ≡ placed process place ⌝ }
 {
     Process {
@@ -99,7 +99,7 @@ pub fn released_all(t: Tables, members: [u8; 32]) -> Tables
 }
 
 // Process p runs.
-fn runs(t: Tables, p: u8) -> Tables
+pub fn runs(t: Tables, p: u8) -> Tables
     ensures { λ r. ⌜ r ≡ runs p t ⌝ }
 {
     let mut next = with_place(t, p, Place::Running);

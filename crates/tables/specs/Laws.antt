@@ -65,14 +65,14 @@ module _ {A : Type 0} (l : List A) (p : ℕ) (x : A) where
   pub replaced-unseen : {B : Type 0} (g : A → B) (d : A) → g x ≡ g (numbered l p d) → (q : ℕ) → g (numbered (replaced l p x) q d) ≡ g (numbered l q d)
   replaced-unseen g d e q =
       elim (test (eqb q p)) [
-        holds s ↦
-          elim (test (eqb p 0)) [
-            holds z ↦ rw (replaced-zero l p x (eqb-true p 0 z))
-          | fails z ↦
-              elim (test (leb p (length l))) [
-                holds b ↦ rw (eqb-true q p s, replaced-same d (eqb-false p 0 z) (leb-true p (length l) b)) e
-              | fails b ↦ rw (replaced-past l p x (leb-false p (length l) b))
-              ]
-          ]
-      | fails s ↦ ap g (replaced-other q d (eqb-false q p s))
+        | holds s ↦
+            elim (test (eqb p 0)) [
+              | holds z ↦ rw (replaced-zero l p x (eqb-true p 0 z))
+              | fails z ↦
+                  elim (test (leb p (length l))) [
+                    | holds b ↦ rw (eqb-true q p s, replaced-same d (eqb-false p 0 z) (leb-true p (length l) b)) e
+                    | fails b ↦ rw (replaced-past l p x (leb-false p (length l) b))
+                  ]
+            ]
+        | fails s ↦ ap g (replaced-other q d (eqb-false q p s))
       ]

@@ -327,14 +327,14 @@ fn line_spot(which: Line) -> u8
 }
 
 // Where process x has its entry; a number outside 1 to 32 has just some entry.
-fn entry_of(x: u8) -> usize
+pub fn entry_of(x: u8) -> usize
     ensures { λ r. ⌜ r ≡ (x + 31) % 32 ⌝ }
 {
     (x as usize + 31) % 32
 }
 
 // Does x, whose entry has this place, stand in the line?
-fn stands_in(x: u8, place: Place, which: Line) -> bool
+pub fn stands_in(x: u8, place: Place, which: Line) -> bool
     ensures { λ r. ⌜ r ≡ cond (isNumber x) (stands which place) false ⌝ }
 {
     if x == 0 {

@@ -1,0 +1,3 @@
+-- The call table, and its laws.
+pub mod Calls
+pub mod Laws

@@ -1,0 +1,3 @@
+-- Records: request and reply, and the laws of their bytes.
+pub mod Records
+pub mod Laws
