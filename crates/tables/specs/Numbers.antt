@@ -51,3 +51,22 @@ kindNumber Free = 0
 kindNumber (Binary v) = 1
 kindNumber (Counting v) = 2
 kindNumber (Ring b) = 3
+
+-- A structure that is live, a semaphore, a ring
+abbrev pub isLive : Kind → Bool
+isLive Free = false
+isLive (Binary v) = true
+isLive (Counting v) = true
+isLive (Ring b) = true
+
+abbrev pub isSemaphore : Kind → Bool
+isSemaphore Free = false
+isSemaphore (Binary v) = true
+isSemaphore (Counting v) = true
+isSemaphore (Ring b) = false
+
+abbrev pub isRing : Kind → Bool
+isRing Free = false
+isRing (Binary v) = false
+isRing (Counting v) = false
+isRing (Ring b) = true

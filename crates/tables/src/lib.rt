@@ -5,7 +5,7 @@ ghost use mathlib.Core.Path.{_≡_};
 ghost use mathlib.Core.Bool.{cond, false};
 ghost use Prim.Native.Nat.{_+_, _%_};
 ghost use Rattle.arrivals.specs.Order.{first};
-ghost use Rattle.tables.specs.Numbers.{code, spot, amount, placeCode, kindNumber};
+ghost use Rattle.tables.specs.Numbers.{code, spot, placeCode, kindNumber, isLive, isSemaphore, isRing};
 ghost use Rattle.tables.specs.Lines.{
   lineCode,
   lineSpot,
@@ -295,6 +295,42 @@ pub fn kind_number(kind: Kind) -> u8
         Kind::Binary(_) => 1,
         Kind::Counting(_) => 2,
         Kind::Ring(_) => 3,
+    }
+}
+
+// Is the structure live?
+pub fn is_live(kind: Kind) -> bool
+    ensures { λ r. ⌜ r ≡ isLive kind ⌝ }
+{
+    match kind {
+        Kind::Free => false,
+        Kind::Binary(_) => true,
+        Kind::Counting(_) => true,
+        Kind::Ring(_) => true,
+    }
+}
+
+// Is it a semaphore?
+pub fn is_semaphore(kind: Kind) -> bool
+    ensures { λ r. ⌜ r ≡ isSemaphore kind ⌝ }
+{
+    match kind {
+        Kind::Free => false,
+        Kind::Binary(_) => true,
+        Kind::Counting(_) => true,
+        Kind::Ring(_) => false,
+    }
+}
+
+// Is it a ring?
+pub fn is_ring(kind: Kind) -> bool
+    ensures { λ r. ⌜ r ≡ isRing kind ⌝ }
+{
+    match kind {
+        Kind::Free => false,
+        Kind::Binary(_) => false,
+        Kind::Counting(_) => false,
+        Kind::Ring(_) => true,
     }
 }
 

@@ -1,0 +1,3 @@
+-- Semaphores.
+pub mod Semaphores
+pub mod Laws

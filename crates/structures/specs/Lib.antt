@@ -1,0 +1,3 @@
+-- Structures: creation, deletion and their values.
+pub mod Structures
+pub mod Laws
