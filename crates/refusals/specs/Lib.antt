@@ -1,0 +1,3 @@
+-- The refusals.
+pub mod Refusals
+pub mod Laws

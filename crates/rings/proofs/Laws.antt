@@ -1,0 +1,119 @@
+-- What the loops and the plan write, one step on; and a turn of the serving.
+use Prim.Native.Nat.{ℕ, suc, _+_, _-_, _≤_, _<_}
+use mathlib.Core.Path.{_≡_, refl, sym, ap, _∙_}
+use mathlib.Core.Bool.{Bool, true, false, cond, true≢false}
+use mathlib.Core.List.{List, [], _∷_, _++_, map, append-nil, append-assoc}
+use lib.Dec.{eqb, leb, ltb}
+use borrow.Author.Tests.{eq-eqb, ne-eqb, eqb-true, eqb-false, leb-true, leb-false, ltb-true, ltb-false}
+use Rattle.basics.specs.Tests.{Test, test, holds, fails}
+use Rattle.arrivals.specs.Order.{first}
+use Rattle.bay.specs.declared.Parcel.{Parcel}
+use Rattle.bay.specs.declared.Holding.the-variants.{Bytes}
+use Rattle.bay.specs.Bay.{parcelOf, zeros}
+use Rattle.tables.specs.declared.Tables.{Tables}
+use Rattle.rings.specs.Serving.{lengthFor, getterGoes, putterGoes, who, inTurn, service, services}
+use Rattle.rings.specs.Laws.{getter-first, putter-first, nobody-first}
+use native.Mathlib.Omega.{arith}
+use native.Mathlib.Numerals.{add-one}
+use lib.ListN.{length, take, drop, set, getD, length-map, length-set, List·getD-map, drop-of-length-le, replicate, replicate-append-replicate}
+use lib.Seq.{take-suc, take-suc-set, take-all, drop-drop, drop-cons, getD-take, length-take-le}
+
+-- Who is written behind the first k is the next of the first k + 1
+pub one-chosen : (l : List ℕ) (k j x : ℕ) → j ≡ k + 1 → k < length l → take j (set l k x) ≡ take k l ++ (x ∷ [])
+one-chosen l k j x e h = rw (e, add-one) (take-suc-set l k x h)
+
+-- One more length is written
+pub one-length : {A : Type 0} (f : A → ℕ) (ps : List A) (l : List ℕ) (i v : ℕ) (d : A) → length l ≡ length ps → i < length ps → v ≡ f (getD ps i d) → take i l ≡ take i (map f ps) → take (i + 1) (set l i v) ≡ take (i + 1) (map f ps)
+one-length f ps l i v d e h w k =
+    let fits : i < length (map f ps) = rw (length-map ps f) h in
+    rw (add-one, take-suc-set l i v (omega arith), take-suc (map f ps) i (f d) fits, k, w, List·getD-map f ps i d)
+
+-- All are written
+pub all-lengths : {A : Type 0} (f : A → ℕ) (ps : List A) (l : List ℕ) (i : ℕ) → length l ≡ length ps → length ps ≤ i → take i l ≡ take i (map f ps) → l ≡ map f ps
+all-lengths f ps l i e h k = sym (take-all i l (omega arith)) ∙ k ∙ take-all i (map f ps) (rw (length-map ps f) h)
+
+-- ---- a turn of the serving
+
+-- Who goes is somebody, and finds enough
+pub goes-true : (p a b : ℕ) {r : Bool} → r ≡ cond (eqb p 0) false (leb a b) → r ≡ true → (p ≡ 0 → ⊥) × (a ≤ b)
+goes-true p a b e t = go (test (eqb p 0)) (sym e ∙ t)
+  where
+    go : Test (eqb p 0) → cond (eqb p 0) false (leb a b) ≡ true → (p ≡ 0 → ⊥) × (a ≤ b)
+    go (holds q) w = absurd (true≢false (sym (rw q at w)))
+    go (fails q) w = (eqb-false p 0 q, leb-true a b (rw q at w))
+
+-- Somebody stands within the line
+pub within : (l : List ℕ) (i p : ℕ) → p ≡ first (drop i l) → (p ≡ 0 → ⊥) → i < length l
+within l i p e h = elim (test (ltb i (length l))) [
+  | holds q ↦ ltb-true i (length l) q
+  | fails q ↦
+      let past : length l ≤ i = ltb-false i (length l) q in
+      absurd (h (e ∙ rw (drop-of-length-le l {i = i} past)))
+]
+
+module _ (k gs ps : List ℕ) (size held g q p l : ℕ) (b : Bool) (its : l ≡ lengthFor k p) where
+  -- The code's test is the rule's
+  pub getter-test : p ≡ first (drop g gs) → b ≡ cond (eqb p 0) false (leb l held) → getterGoes k held (drop g gs) ≡ b
+  unfolding getterGoes
+  getter-test e w = rw (w, its, e)
+
+  pub putter-test : p ≡ first (drop q ps) → b ≡ cond (eqb p 0) false (leb (held + l) size) → putterGoes k size held (drop q ps) ≡ b
+  unfolding putterGoes
+  putter-test e w = rw (w, its, e)
+
+  -- The rest is served after the one who was chosen
+  module _ (r c d : List ℕ) (h i j : ℕ) (more : d ≡ c ++ (p ∷ [])) (next : r ≡ d ++ inTurn k size h (drop i gs) (drop j ps)) where
+    pub getter-turn : p ≡ first (drop g gs) → getterGoes k held (drop g gs) ≡ true → h ≡ held - l → i ≡ g + 1 → j ≡ q
+        → r ≡ c ++ inTurn k size held (drop g gs) (drop q ps)
+    getter-turn e w f u v = next ∙ rw (more, f, u, v, getter-first k size held (drop g gs) (drop q ps) w, drop-drop 1 g gs, ← e, ← its) (append-assoc c (p ∷ []) _)
+
+    pub putter-turn : p ≡ first (drop q ps) → getterGoes k held (drop g gs) ≡ false → putterGoes k size held (drop q ps) ≡ true → h ≡ held + l → i ≡ g → j ≡ q + 1
+        → r ≡ c ++ inTurn k size held (drop g gs) (drop q ps)
+    putter-turn e n w f u v = next ∙ rw (more, f, u, v, putter-first k size held (drop g gs) (drop q ps) n w, drop-drop 1 q ps, ← e, ← its) (append-assoc c (p ∷ []) _)
+
+-- Nobody is left to be served
+pub nobody-left : (k gs ps c : List ℕ) (size held : ℕ) → getterGoes k held gs ≡ false → putterGoes k size held ps ≡ false → c ≡ c ++ inTurn k size held gs ps
+nobody-left k gs ps c size held g p = rw (nobody-first k size held gs ps g p) (sym (append-nil c))
+
+-- ---- the chosen ones are served
+
+-- One more is served
+pub one-more : (b : ℕ) (l : List ℕ) (n i x : ℕ) (t u : Tables) → n ≤ length l → i < n → x ≡ getD l i 0 → u ≡ service b x t → services b (drop (i + 1) (take n l)) u ≡ services b (drop i (take n l)) t
+unfolding services
+one-more b l n i x t u k h e w =
+    let long : i < length (take n l) = rw (length-take-le n l k) h in
+    rw (w, e, add-one, drop-cons (take n l) i 0 long, getD-take n l i 0 h)
+
+-- Nobody is left
+pub no-more : (b : ℕ) (l : List ℕ) (n i : ℕ) (t : Tables) → n ≤ length l → n ≤ i → services b (drop i (take n l)) t ≡ t
+unfolding services
+no-more b l n i t k h =
+    let long : length (take n l) ≤ i = rw (length-take-le n l k) h in
+    rw (drop-of-length-le (take n l) {i = i} long)
+
+-- ---- a parcel of the first l bytes
+
+-- Nothing is cleared yet
+pub none-cleared : (b : List ℕ) (l : ℕ) → take l b ≡ take l b ++ replicate (l - l) 0
+none-cleared b l = let none : l - l ≡ 0 = omega arith in rw none (sym (append-nil (take l b)))
+
+-- One more byte is cleared
+pub one-cleared : (kept front : List ℕ) (l i : ℕ) → l ≤ i → i < length kept → take i kept ≡ front ++ replicate (i - l) 0
+    → take (i + 1) (set kept i 0) ≡ front ++ replicate (i + 1 - l) 0
+one-cleared kept front l i h k e =
+    let more : i + 1 - l ≡ (i - l) + 1 = omega arith in
+    rw (more, ← replicate-append-replicate {A = ℕ} (i - l) 1 0, add-one, take-suc-set kept i 0 k, e) (append-assoc front (replicate (i - l) 0) (0 ∷ []))
+
+-- All are
+pub all-cleared : (b kept : List ℕ) (l i : ℕ) → l ≤ 64 → i ≡ 64 → length b ≡ 64 → length kept ≡ 64 → take i kept ≡ take l b ++ replicate (i - l) 0
+    → record { bytes = kept; holds = Bytes l } ≡ parcelOf (take l b)
+unfolding parcelOf zeros
+all-cleared b kept l i h u long whole e =
+    let front : length (take l b) ≡ l = length-take-le l b (omega arith) in
+    let kept-is : kept ≡ take l b ++ replicate (64 - l) 0 = sym (take-all 64 kept (omega arith)) ∙ rw u at e in
+    rw (front, kept-is)
+
+-- Of 64 bytes or more the parcel has all
+pub all-kept : (b : List ℕ) (l : ℕ) → 64 ≤ l → length b ≡ 64 → record { bytes = b; holds = Bytes 64 } ≡ parcelOf (take l b)
+unfolding parcelOf zeros
+all-kept b l h long = let whole : length b ≤ l = omega arith in rw (take-all l b whole, long, append-nil)
