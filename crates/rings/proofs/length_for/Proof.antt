@@ -1,7 +1,7 @@
 -- `rings::length_for` meets its contract: at 0 and past the end 0, else the one with the number.
 use mathlib.Core.Path.{_≡_, sym}
 use native.Mathlib.Omega.{arith}
-use Rattle.tables.proofs.Laws.{numbered-zero, numbered-past, numbered-at}
+use Rattle.tables.specs.Laws.{numbered-zero, numbered-past, numbered-at}
 use Rattle.rings.specs.Serving.{lengthFor}
 use borrow.Author.Needs.{needs}
 use Rattle.rings.proofs.length_for.Statement.{statement}
