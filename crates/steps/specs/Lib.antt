@@ -1,0 +1,2 @@
+-- The kernel's step.
+pub mod Steps
