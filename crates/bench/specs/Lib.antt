@@ -1,0 +1,3 @@
+-- Tried at the bench.
+pub mod Rows
+pub mod Proved
