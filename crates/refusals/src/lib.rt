@@ -278,10 +278,10 @@ fn code_if(applies: bool, code: u8) -> u8
 }
 
 // Is the caller a process whose parcel holds uncollected bytes?
-fn uncollected(t: Tables, caller: u8) -> bool
-    ensures { λ r. ⌜ r ≡ both (eqb caller 1) (holdsBytes (parcelFor t (t .running) .holds)) ⌝ }
+fn uncollected(t: Tables, who: u8) -> bool
+    ensures { λ r. ⌜ r ≡ both (eqb who 1) (holdsBytes (parcelFor t (t .running) .holds)) ⌝ }
 {
-    if caller != 1 {
+    if who != 1 {
         return false;
     }
     let parcel = tables::parcel_for(t, t.running);
