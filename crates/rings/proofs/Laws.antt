@@ -1,13 +1,12 @@
 -- What the loops and the plan write, one step on; and a turn of the serving.
-use Prim.Native.Nat.{ℕ, suc, _+_, _-_, _≤_, _<_}
-use mathlib.Core.Path.{_≡_, refl, sym, ap, _∙_}
-use mathlib.Core.Bool.{Bool, true, false, cond, true≢false}
+use Prim.Native.Nat.{ℕ, _+_, _-_, _≤_, _<_}
+use mathlib.Core.Path.{_≡_, sym, _∙_}
+use mathlib.Core.Bool.{Bool, true, false, cond}
 use mathlib.Core.List.{List, [], _∷_, _++_, map, append-nil, append-assoc}
 use lib.Dec.{eqb, leb, ltb}
-use borrow.Author.Tests.{eq-eqb, ne-eqb, eqb-true, eqb-false, leb-true, leb-false, ltb-true, ltb-false}
-use Rattle.basics.specs.Tests.{Test, test, holds, fails}
+use borrow.Author.Tests.{ltb-true, ltb-false}
+use Rattle.basics.specs.Tests.{test, holds, fails}
 use Rattle.arrivals.specs.Order.{first}
-use Rattle.bay.specs.declared.Parcel.{Parcel}
 use Rattle.bay.specs.declared.Holding.the-variants.{Bytes}
 use Rattle.bay.specs.Bay.{parcelOf, zeros}
 use Rattle.tables.specs.declared.Tables.{Tables}
@@ -15,7 +14,7 @@ use Rattle.rings.specs.Serving.{lengthFor, getterGoes, putterGoes, who, 
 use Rattle.rings.specs.Laws.{getter-first, putter-first, nobody-first}
 use native.Mathlib.Omega.{arith}
 use native.Mathlib.Numerals.{add-one}
-use lib.ListN.{length, take, drop, set, getD, length-map, length-set, List·getD-map, drop-of-length-le, replicate, replicate-append-replicate}
+use lib.ListN.{length, take, drop, set, getD, length-map, List·getD-map, drop-of-length-le, replicate, replicate-append-replicate}
 use lib.Seq.{take-suc, take-suc-set, take-all, drop-drop, drop-cons, getD-take, length-take-le}
 
 -- Who is written behind the first k is the next of the first k + 1
@@ -33,14 +32,6 @@ pub all-lengths : {A : Type 0} (f : A → ℕ) (ps : List A) (l : List ℕ) (i :
 all-lengths f ps l i e h k = sym (take-all i l (omega arith)) ∙ k ∙ take-all i (map f ps) (rw (length-map ps f) h)
 
 -- ---- a turn of the serving
-
--- Who goes is somebody, and finds enough
-pub goes-true : (p a b : ℕ) {r : Bool} → r ≡ cond (eqb p 0) false (leb a b) → r ≡ true → (p ≡ 0 → ⊥) × (a ≤ b)
-goes-true p a b e t = go (test (eqb p 0)) (sym e ∙ t)
-  where
-    go : Test (eqb p 0) → cond (eqb p 0) false (leb a b) ≡ true → (p ≡ 0 → ⊥) × (a ≤ b)
-    go (holds q) w = absurd (true≢false (sym (rw q at w)))
-    go (fails q) w = (eqb-false p 0 q, leb-true a b (rw q at w))
 
 -- Somebody stands within the line
 pub within : (l : List ℕ) (i p : ℕ) → p ≡ first (drop i l) → (p ≡ 0 → ⊥) → i < length l

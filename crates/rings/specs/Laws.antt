@@ -1,13 +1,14 @@
 -- Laws of serving: who is next, and who is left when nobody is.
-use Prim.Native.Nat.{ℕ, zero, suc, _+_, _-_, _≤_, _<_}
-use mathlib.Core.Path.{_≡_, refl, sym, ap, _∙_}
+use Prim.Native.Nat.{ℕ, zero, suc, _+_, _-_, _≤_}
+use mathlib.Core.Path.{_≡_, refl, sym, _∙_}
 use mathlib.Core.Bool.{Bool, true, false, cond, true≢false}
 use mathlib.Core.List.{List, [], _∷_, _++_}
 use native.Mathlib.Omega.{arith}
 use native.Mathlib.Nat.{suc-add, add-suc}
 use lib.Dec.{eqb, leb}
-use lib.ListN.{length, take, drop, replicate, length-append}
-use Rattle.basics.specs.Tests.{test, holds, fails}
+use borrow.Author.Tests.{eqb-false, leb-true}
+use lib.ListN.{length, drop, replicate, length-append}
+use Rattle.basics.specs.Tests.{Test, test, holds, fails}
 use Rattle.arrivals.specs.Order.{first}
 use Rattle.rings.specs.Serving.{lengthFor, getterGoes, putterGoes, who, inTurn}
 
@@ -20,7 +21,7 @@ nobody-goes zero k size held gs ps g p = refl
 nobody-goes (suc m) k size held gs ps g p = rw (g, p)
 
 -- in no turn nobody is served
-nobody-yet : (k : List ℕ) (size held : ℕ) (gs ps : List ℕ) → who zero k size held gs ps ≡ []
+pub nobody-yet : (k : List ℕ) (size held : ℕ) (gs ps : List ℕ) → who zero k size held gs ps ≡ []
 unfolding who
 nobody-yet k size held gs ps = refl
 
@@ -69,6 +70,23 @@ no-getter k held = refl
 no-putter : (k : List ℕ) (size held : ℕ) → putterGoes k size held [] ≡ false
 unfolding putterGoes
 no-putter k size held = refl
+
+-- Who goes is somebody, and finds enough
+pub goes-true : (p a b : ℕ) {r : Bool} → r ≡ cond (eqb p 0) false (leb a b) → r ≡ true → (p ≡ 0 → ⊥) × (a ≤ b)
+goes-true p a b e t = go (test (eqb p 0)) (sym e ∙ t)
+  where
+    go : Test (eqb p 0) → cond (eqb p 0) false (leb a b) ≡ true → (p ≡ 0 → ⊥) × (a ≤ b)
+    go (holds q) w = absurd (true≢false (sym (rw q at w)))
+    go (fails q) w = (eqb-false p 0 q, leb-true a b (rw q at w))
+
+-- so the head getter finds its bytes, and the head putter its room
+pub goes-enough : (k : List ℕ) (held x : ℕ) (gs : List ℕ) → getterGoes k held (x ∷ gs) ≡ true → lengthFor k x ≤ held
+unfolding getterGoes
+goes-enough k held x gs g = goes-true x (lengthFor k x) held refl g .1
+
+pub goes-room : (k : List ℕ) (size held x : ℕ) (ps : List ℕ) → putterGoes k size held (x ∷ ps) ≡ true → held + lengthFor k x ≤ size
+unfolding putterGoes
+goes-room k size held x ps p = goes-true x (held + lengthFor k x) size refl p .1
 
 pub next : (k : List ℕ) (size held : ℕ) (gs ps : List ℕ) → Next k size held gs ps
 next k size held gs ps = elim (test (getterGoes k held gs)) [
@@ -143,3 +161,39 @@ unfolding inTurn
 zeros-behind k size held gs ps i j =
     who-zeros k size i j (length (gs ++ replicate i 0) + length (ps ++ replicate j 0)) held gs ps
     ∙ enough k size (length (gs ++ replicate i 0) + length (ps ++ replicate j 0)) held gs ps (simp length-append (omega arith))
+
+-- ---- at rest
+
+-- What is held, and the two lines
+pub record Standing : Type 0 where
+  pub held : ℕ
+  pub getters : List ℕ
+  pub putters : List ℕ
+
+-- What the rule leaves after so many turns
+unfoldable pub left : ℕ → List ℕ → ℕ → ℕ → List ℕ → List ℕ → Standing
+left zero k size held gs ps = record { held = held; getters = gs; putters = ps }
+left (suc m) k size held gs ps =
+    cond (getterGoes k held gs) (left m k size (held - lengthFor k (first gs)) (drop 1 gs) ps)
+    (cond (putterGoes k size held ps) (left m k size (held + lengthFor k (first ps)) gs (drop 1 ps))
+    (record { held = held; getters = gs; putters = ps }))
+
+module _ (k : List ℕ) (size : ℕ) where
+  -- Neither head of what is left can be served
+  abbrev Rests : Standing → Type 0
+  Rests s = (getterGoes k (s .held) (s .getters) ≡ false) × (putterGoes k size (s .held) (s .putters) ≡ false)
+
+  rest-after : (m : ℕ) → ((held : ℕ) (gs ps : List ℕ) → length gs + length ps ≤ m → Rests (left m k size held gs ps))
+      → {held : ℕ} {gs ps : List ℕ} → Next k size held gs ps → length gs + length ps ≤ suc m → Rests (left (suc m) k size held gs ps)
+  unfolding left
+  rest-after m so {held} {gs} {ps} (neither g p) h = rw (g, p) (g, p)
+  rest-after m so {held} {gs} {ps} (getter x rest g) h = rw g (so (held - lengthFor k x) rest ps (omega arith))
+  rest-after m so {held} {gs} {ps} (putter x rest g p) h = rw (g, p) (so (held + lengthFor k x) gs rest (omega arith))
+
+  -- "until neither can": as many turns as there are members suffice
+  pub rests : (m held : ℕ) (gs ps : List ℕ) → length gs + length ps ≤ m → Rests (left m k size held gs ps)
+  unfolding left
+  rests zero held [] [] h = (no-getter k held, no-putter k size held)
+  rests zero held (x ∷ gs) ps h = absurd (omega arith)
+  rests zero held [] (x ∷ ps) h = absurd (omega arith)
+  rests (suc m) held gs ps h = rest-after m (rests m) (next k size held gs ps) h

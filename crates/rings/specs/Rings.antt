@@ -1,12 +1,11 @@
 -- The ring calls. Where no request could be accepted a step leaves the tables as they are.
 use Prim.Native.Nat.{ℕ, _+_}
-use mathlib.Core.Bool.{Bool, true, false, cond}
+use mathlib.Core.Bool.{Bool, false, cond}
 use mathlib.Core.List.{List}
 use lib.Dec.{eqb, leb}
 use lib.ListN.{take}
 use Rattle.arrivals.specs.Order.{first}
 use Rattle.bay.specs.declared.Ring.{Ring}
-use Rattle.bay.specs.declared.Parcel.{Parcel}
 use Rattle.bay.specs.declared.Moved.{Moved}
 use Rattle.bay.specs.declared.Holding.{Holding}
 use Rattle.bay.specs.declared.Holding.the-variants.{Nothing, Bytes}
@@ -18,7 +17,7 @@ use Rattle.tables.specs.declared.Kind.the-variants as kinds
 use Rattle.tables.specs.declared.Line.the-variants.{Getters, Putters}
 use Rattle.tables.specs.Access.{structureOf, ringIn, parcelFor, withRing, withParcel}
 use Rattle.tables.specs.Lines.{line}
-use Rattle.answers.specs.declared.Outcome.the-variants.{Done, No, Waits}
+use Rattle.answers.specs.declared.Outcome.the-variants.{Done, Waits}
 use Rattle.answers.specs.declared.Step.{Step}
 use Rattle.answers.specs.Answers.{answer, plain, step, unmoved}
 use Rattle.ready.specs.Ready.{runnerJoins}

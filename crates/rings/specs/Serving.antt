@@ -1,14 +1,13 @@
 -- After each transfer or reset, the lines are served: who is served, in turn, and what a service does.
 use Prim.Native.Nat.{ℕ, zero, suc, _+_, _-_}
-use mathlib.Core.Bool.{Bool, true, false, cond}
-use mathlib.Core.List.{List, [], _∷_, map}
+use mathlib.Core.Bool.{Bool, false, cond}
+use mathlib.Core.List.{List, [], _∷_, _++_, map}
 use lib.Dec.{eqb, leb}
 use lib.ListN.{length, take, drop}
 use Rattle.arrivals.specs.Order.{first}
-use Rattle.bay.specs.declared.Ring.{Ring}
 use Rattle.bay.specs.declared.Parcel.{Parcel}
 use Rattle.bay.specs.declared.Moved.{Moved}
-use Rattle.bay.specs.Bay.{putOf, getOf, emptyParcel}
+use Rattle.bay.specs.Bay.{putOf, getOf, emptyParcel, bytesFrom}
 use Rattle.tables.specs.declared.Tables.{Tables}
 use Rattle.tables.specs.declared.Process.{Process}
 use Rattle.tables.specs.declared.Place.{Place}
@@ -104,3 +103,61 @@ turns n b t = inTurn (lengthsOf t) (ringIn t b .size) (ringIn t b .held) (line (
 -- "the lines are served"
 unfoldable pub served : ℕ → ℕ → Tables → Tables
 served n b t = services b (turns n b t) t
+
+-- ---- the rule, step by step on the tables
+
+-- Does the head getter of ring n, which lies in bay b, want no more than is held?
+unfoldable pub getterCan : ℕ → ℕ → Tables → Bool
+getterCan n b t = getterGoes (lengthsOf t) (ringIn t b .held) (line (Getters n) t)
+
+-- Is there room for what its head putter brings?
+unfoldable pub putterCan : ℕ → ℕ → Tables → Bool
+putterCan n b t = putterGoes (lengthsOf t) (ringIn t b .size) (ringIn t b .held) (line (Putters n) t)
+
+-- "If the head getter wants no more than is held, it is served; if not, the head putter goes in when there is room"
+unfoldable pub oneServed : ℕ → ℕ → Tables → Tables
+oneServed n b t = cond (getterCan n b t) (service b (first (line (Getters n) t)) t) (cond (putterCan n b t) (service b (first (line (Putters n) t)) t) t)
+
+-- "then again", so many times
+unfoldable pub againServed : ℕ → ℕ → ℕ → Tables → Tables
+againServed zero n b t = t
+againServed (suc m) n b t = againServed m n b (oneServed n b t)
+
+-- ---- the bytes of those who are served
+
+-- The bytes that the service of p puts into the ring: a putter's, out of its parcel
+unfoldable pub enteringAs : ℕ → Place → Tables → List ℕ
+enteringAs p Nowhere t = []
+enteringAs p Running t = []
+enteringAs p Ready t = []
+enteringAs p Parked t = []
+enteringAs p (Waiting n) t = []
+enteringAs p (Getting n l) t = []
+enteringAs p (Putting n l) t = bytesFrom (parcelFor t p) 0 l
+enteringAs p (Asleep k) t = []
+
+-- The bytes that it takes out: a getter's, which then lie in its parcel
+unfoldable pub leavingAs : ℕ → Place → Tables → List ℕ
+leavingAs p Nowhere t = []
+leavingAs p Running t = []
+leavingAs p Ready t = []
+leavingAs p Parked t = []
+leavingAs p (Waiting n) t = []
+leavingAs p (Getting n l) t = bytesFrom (parcelFor t p) 0 l
+leavingAs p (Putting n l) t = []
+leavingAs p (Asleep k) t = []
+
+unfoldable pub entering : ℕ → Tables → List ℕ
+entering p t = enteringAs p (processOf t p .place) t
+
+unfoldable pub leaving : ℕ → ℕ → Tables → List ℕ
+leaving b p t = leavingAs p (processOf t p .place) (service b p t)
+
+-- The bytes of the served putters, in turn, and those of the served getters
+unfoldable pub bytesPut : ℕ → List ℕ → Tables → List ℕ
+bytesPut b [] t = []
+bytesPut b (p ∷ l) t = entering p t ++ bytesPut b l (service b p t)
+
+unfoldable pub bytesGot : ℕ → List ℕ → Tables → List ℕ
+bytesGot b [] t = []
+bytesGot b (p ∷ l) t = leaving b p t ++ bytesGot b l (service b p t)

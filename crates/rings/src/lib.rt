@@ -18,7 +18,6 @@ ghost use lib.ListN.{length, take, drop};
 ghost use Rattle.arrivals.specs.Order.{first};
 ghost use Rattle.bay.specs.Bay.{parcelOf};
 ghost use Rattle.tables.specs.Access.{ringIn};
-ghost use Rattle.tables.specs.Lines.{line};
 ghost use Rattle.answers.specs.Answers.{plain, step};
 ghost use Rattle.rings.specs.Serving.{
   asked,
@@ -32,7 +31,6 @@ ghost use Rattle.rings.specs.Serving.{
   withMoved,
   servedGetter,
   servedPutter,
-  servedAs,
   service,
   services,
   served,
@@ -61,11 +59,11 @@ ghost use Rattle.rings.specs.Rings.{
 };
 
 // Who is to be served: how many bytes are held then, how far each line has been gone through, and who it is, in turn.
-pub struct Plan {
-    pub held: u16,
-    pub getter: u8,
-    pub putter: u8,
-    pub served: [u8; 64],
+struct Plan {
+    held: u16,
+    getter: u8,
+    putter: u8,
+    served: [u8; 64],
 }
 
 // What becomes of a transfer: no request could be accepted; it goes through at once, in this bay; the line, or the room or
@@ -157,7 +155,7 @@ fn putter_goes(p: u8, l: u8, held: u16, size: u16) -> bool
 // The plan with getter p chosen, which takes l bytes.
 fn getter_chosen(plan: Plan, p: u8, l: u8) -> Plan
     requires { ⌜ (plan .getter < 32) × (plan .putter ≤ 32) × (l ≤ plan .held) ⌝ }
-    ensures { λ r. ⌜ (r .held ≡ plan .held - l) × (r .getter ≡ plan .getter + 1) × (r .putter ≡ plan .putter) × (chosen r ≡ chosen plan ++ (p ∷ [])) ⌝ }
+    ensures { λ r. ⌜ (r .getter ≤ 32) × (r .held ≡ plan .held - l) × (r .getter ≡ plan .getter + 1) × (r .putter ≡ plan .putter) × (chosen r ≡ chosen plan ++ (p ∷ [])) ⌝ }
 {
     let at = plan.getter as usize + plan.putter as usize;
     let mut next = plan;
@@ -170,7 +168,7 @@ fn getter_chosen(plan: Plan, p: u8, l: u8) -> Plan
 // The plan with putter p chosen, which brings l bytes.
 fn putter_chosen(plan: Plan, p: u8, l: u8, size: u16) -> Plan
     requires { ⌜ (plan .getter ≤ 32) × (plan .putter < 32) × (plan .held + l ≤ size) ⌝ }
-    ensures { λ r. ⌜ (r .held ≡ plan .held + l) × (r .getter ≡ plan .getter) × (r .putter ≡ plan .putter + 1) × (chosen r ≡ chosen plan ++ (p ∷ [])) ⌝ }
+    ensures { λ r. ⌜ (r .putter ≤ 32) × (r .held ≡ plan .held + l) × (r .getter ≡ plan .getter) × (r .putter ≡ plan .putter + 1) × (chosen r ≡ chosen plan ++ (p ∷ [])) ⌝ }
 {
     let at = plan.getter as usize + plan.putter as usize;
     let mut next = plan;
@@ -275,7 +273,8 @@ fn served_putter(t: Tables, b: u8, p: u8, l: u8) -> Tables
 {
     let parcel = tables::parcel_for(t, p);
     let next = entered(t, b, parcel, l);
-    ready::released(tables::with_parcel(next, p, bay::empty_parcel()), p)
+    let empty = bay::empty_parcel();
+    ready::released(tables::with_parcel(next, p, empty), p)
 }
 
 // Process p is served at the ring in bay b.
@@ -318,17 +317,6 @@ pub fn served(t: Tables, n: u8, b: u8) -> Tables
     services(t, b, turns(t, n, b))
 }
 
-// These tables, and an answer that is the outcome alone.
-fn plainly(t: Tables, outcome: Outcome) -> Step
-    ensures { λ r. ⌜ r ≡ step t (plain outcome) ⌝ }
-{
-    let answer = answers::with_numbers(outcome, 0, 0, 0);
-    Step {
-        tables: t,
-        answer: answer,
-    }
-}
-
 // The parcel of the first l of these bytes.
 fn parcel_of(bytes: [u8; 64], l: u8) -> Parcel
     ensures { λ r. ⌜ r ≡ parcelOf (take l bytes) ⌝ }
@@ -368,10 +356,10 @@ fn allowed(l: u8, size: u16) -> bool
 fn at_once(head: u8, enough: bool) -> bool
     ensures { λ r. ⌜ r ≡ atOnce head enough ⌝ }
 {
-    if head != 0 {
-        return false;
+    if head == 0 {
+        return enough;
     }
-    enough
+    false
 }
 
 // The way of l bytes at the ring in bay b.
@@ -440,7 +428,7 @@ fn put_through(t: Tables, n: u8, b: u8, l: u8, bytes: [u8; 64]) -> Step
     ensures { λ r. ⌜ r ≡ putThrough n b l bytes t ⌝ }
 {
     let next = entered(t, b, parcel_of(bytes, l), l);
-    plainly(served(next, n, b), Outcome::Done)
+    answers::plainly(served(next, n, b), Outcome::Done)
 }
 
 // The caller joins the putters, its bytes in its parcel.
@@ -448,7 +436,7 @@ fn put_waits(t: Tables, n: u8, l: u8, bytes: [u8; 64]) -> Step
     ensures { λ r. ⌜ r ≡ putWaits n l bytes t ⌝ }
 {
     let next = tables::with_parcel(t, t.running, parcel_of(bytes, l));
-    plainly(
+    answers::plainly(
         ready::runner_joins(next, Place::Putting(n, l)),
         Outcome::Waits,
     )
@@ -459,11 +447,11 @@ pub fn put_in(t: Tables, n: u8, l: u8, bytes: [u8; 64]) -> Step
     ensures { λ r. ⌜ r ≡ putIn n l bytes t ⌝ }
 {
     if t.running == 0 {
-        return plainly(t, Outcome::No);
+        return answers::plainly(t, Outcome::No);
     }
     let way = way_in(t, n, l);
     match way {
-        Way::Closed => plainly(t, Outcome::No),
+        Way::Closed => answers::plainly(t, Outcome::No),
         Way::AtOnce(b) => put_through(t, n, b, l, bytes),
         Way::Blocked => put_waits(t, n, l, bytes),
     }
@@ -475,9 +463,9 @@ pub fn conditionally_put(t: Tables, n: u8, l: u8, bytes: [u8; 64]) -> Step
 {
     let way = way_in(t, n, l);
     match way {
-        Way::Closed => plainly(t, Outcome::No),
+        Way::Closed => answers::plainly(t, Outcome::No),
         Way::AtOnce(b) => put_through(t, n, b, l, bytes),
-        Way::Blocked => plainly(t, Outcome::No),
+        Way::Blocked => answers::plainly(t, Outcome::No),
     }
 }
 
@@ -515,7 +503,7 @@ fn got_through(t: Tables, n: u8, b: u8, l: u8) -> Step
 fn get_waits(t: Tables, n: u8, l: u8) -> Step
     ensures { λ r. ⌜ r ≡ getWaits n l t ⌝ }
 {
-    plainly(ready::runner_joins(t, Place::Getting(n, l)), Outcome::Waits)
+    answers::plainly(ready::runner_joins(t, Place::Getting(n, l)), Outcome::Waits)
 }
 
 // Call 20, get.
@@ -523,11 +511,11 @@ pub fn got(t: Tables, n: u8, l: u8) -> Step
     ensures { λ r. ⌜ r ≡ got n l t ⌝ }
 {
     if t.running == 0 {
-        return plainly(t, Outcome::No);
+        return answers::plainly(t, Outcome::No);
     }
     let way = way_out(t, n, l);
     match way {
-        Way::Closed => plainly(t, Outcome::No),
+        Way::Closed => answers::plainly(t, Outcome::No),
         Way::AtOnce(b) => got_through(t, n, b, l),
         Way::Blocked => get_waits(t, n, l),
     }
@@ -538,13 +526,13 @@ pub fn conditionally_got(t: Tables, n: u8, l: u8) -> Step
     ensures { λ r. ⌜ r ≡ conditionallyGot n l t ⌝ }
 {
     if t.running == 0 {
-        return plainly(t, Outcome::No);
+        return answers::plainly(t, Outcome::No);
     }
     let way = way_out(t, n, l);
     match way {
-        Way::Closed => plainly(t, Outcome::No),
+        Way::Closed => answers::plainly(t, Outcome::No),
         Way::AtOnce(b) => got_through(t, n, b, l),
-        Way::Blocked => plainly(t, Outcome::No),
+        Way::Blocked => answers::plainly(t, Outcome::No),
     }
 }
 
@@ -553,8 +541,9 @@ fn reset_in(t: Tables, n: u8, b: u8) -> Step
     ensures { λ r. ⌜ r ≡ resetIn n b t ⌝ }
 {
     let ring = tables::ring_in(t, b);
-    let next = tables::with_ring(t, b, bay::reset(ring));
-    plainly(served(next, n, b), Outcome::Done)
+    let thrown = tables::with_ring(t, b, bay::reset(ring));
+    let done = served(thrown, n, b);
+    answers::plainly(done, Outcome::Done)
 }
 
 // Call 22, reset ring.
@@ -564,9 +553,9 @@ pub fn reset_ring(t: Tables, n: u8) -> Step
     let structure = tables::structure_at(t, n);
     let kind = structure.kind;
     match kind {
-        Kind::Free => plainly(t, Outcome::No),
-        Kind::Binary(_) => plainly(t, Outcome::No),
-        Kind::Counting(_) => plainly(t, Outcome::No),
+        Kind::Free => answers::plainly(t, Outcome::No),
+        Kind::Binary(_) => answers::plainly(t, Outcome::No),
+        Kind::Counting(_) => answers::plainly(t, Outcome::No),
         Kind::Ring(b) => reset_in(t, n, b),
     }
 }
@@ -597,7 +586,7 @@ pub fn collected(t: Tables) -> Step
     let bytes = parcel.bytes;
     let holds = parcel.holds;
     match holds {
-        Holding::Nothing => plainly(t, Outcome::No),
+        Holding::Nothing => answers::plainly(t, Outcome::No),
         Holding::Bytes(l) => collected_bytes(t, l, bytes),
     }
 }

@@ -9,9 +9,6 @@ use Rattle.rings.specs.Serving.{asked, lengthsOf}
 use Rattle.rings.proofs.Laws.{one-length, all-lengths}
 use Rattle.rings.proofs.lengths_of.Statement.{statement}
 use Rattle.rings.proofs.lengths_of.Tie as tie
-use Rattle.rings.proofs.lengths_of.Reads as reads
-use Rattle.rings.proofs.lengths_of.Lts as lts
-use Rattle.rings.proofs.asked_in.Reads as asked-in-reads
 
 abbrev Inv-loop : tie.InvT-loop
 Inv-loop t lengths₀ i₀ lengths i = (i ≤ 32) × (length lengths ≡ 32) × (take i lengths ≡ take i (lengthsOf t))
@@ -19,35 +16,27 @@ Inv-loop t lengths₀ i₀ lengths i = (i ≤ 32) × (length lengths ≡ 32) × 
 abbrev μ-loop : tie.MeasureT-loop
 μ-loop t lengths₀ i₀ lengths i = 32 - i
 
--- src/lib.rt:93:5
 loop-holds : tie.Need-loop-holds Inv-loop μ-loop
 loop-holds c = (search needs, refl, refl)
 
--- src/lib.rt:94:23
 mul-process : tie.Need-mul-process Inv-loop μ-loop
 mul-process c = search needs
 
--- src/lib.rt:94:23
 element-copy-out-process : tie.Need-element-copy-out-process Inv-loop μ-loop
 element-copy-out-process c = search needs
 
--- src/lib.rt:96:22
 asked-in-requires : tie.Need-asked-in-requires Inv-loop μ-loop
 asked-in-requires c κs = search needs
 
--- src/lib.rt:96:9
 array-write-lengths : tie.Need-array-write-lengths Inv-loop μ-loop
 array-write-lengths c = search needs
 
--- src/lib.rt:97:9
 add-i : tie.Need-add-i Inv-loop μ-loop
 add-i c = search needs
 
--- src/lib.rt:93:5
 loop-less : tie.Need-loop-less Inv-loop μ-loop
 loop-less c = search needs
 
--- src/lib.rt:93:5
 loop-again : tie.Need-loop-again Inv-loop μ-loop
 unfolding lengthsOf
 loop-again c =
@@ -56,7 +45,6 @@ loop-again c =
     let known = c .before .before .before .loop .inv in
     (search needs, simp length-set (known .1), one-length (λ q. asked (q .place)) ps (c .before .before .before .loop .lengths) (c .before .before .before .loop .i) (c .asked-in .result) _ (known .1 ∙ sym long) (omega arith) (c .asked-in .ensures) (known .2))
 
--- src/lib.rt:88:1
 returns : tie.Need-returns Inv-loop μ-loop
 unfolding lengthsOf
 returns c =

@@ -1,63 +1,46 @@
+-- `rings::put_in` meets its contract: each return is the definition at the tests on the way.
 use Rattle.rings.specs.Rings.{putIn, putBy}
 use borrow.Author.Tests.{eq-eqb, ne-eqb}
 use borrow.Author.Needs.{needs}
 use Rattle.rings.proofs.put_in.Statement.{statement}
 use Rattle.rings.proofs.put_in.Tie as tie
-use Rattle.rings.proofs.put_in.Reads as reads
-use Rattle.rings.proofs.put_in.Lts as lts
-use Rattle.rings.proofs.plainly.Reads as plainly-reads
-use Rattle.rings.proofs.put_through.Reads as put-through-reads
-use Rattle.rings.proofs.put_waits.Reads as put-waits-reads
-use Rattle.rings.proofs.way_in.Reads as way-in-reads
 
--- src/lib.rt:441:9
 plainly-requires : tie.Need-plainly-requires
 plainly-requires c κs = search needs
 
--- src/lib.rt:441:9
 returns : tie.Need-returns
 unfolding putIn putBy
 returns c = simp (eq-eqb _ _ (c .before .if1 .taken), ← c .plainly .ensures)
 
--- src/lib.rt:443:9
 way-in-requires : tie.Need-way-in-requires
 way-in-requires c κs = search needs
 
--- src/lib.rt:445:35
 enum-told : tie.Need-enum-told
 enum-told c = search needs
 
--- src/lib.rt:445:24
 plainly-requires-2 : tie.Need-plainly-requires-2
 plainly-requires-2 c κs = search needs
 
--- src/lib.rt:446:21
 enum-known-way : tie.Need-enum-known-way
 enum-known-way c = search needs
 
--- src/lib.rt:446:27
 put-through-requires : tie.Need-put-through-requires
 put-through-requires c κs = search needs
 
--- src/lib.rt:447:25
 enum-told-2 : tie.Need-enum-told-2
 enum-told-2 c = search needs
 
--- src/lib.rt:447:25
 put-waits-requires : tie.Need-put-waits-requires
 put-waits-requires c κs = search needs
 
--- src/lib.rt:437:1
 returns-2 : tie.Need-returns-2
 unfolding putIn putBy
 returns-2 c = simp (c .before .enum-told .given .1, ne-eqb _ _ (c .before .before .before .before .if1 .left), ← c .plainly2 .ensures, ← c .before .before .before .way-in .ensures)
 
--- src/lib.rt:437:1
 returns-3 : tie.Need-returns-3
 unfolding putIn putBy
 returns-3 c = simp (c .before .before .way .given .1, ne-eqb _ _ (c .before .before .before .before .before .if1 .left), ← c .put-through .ensures, ← c .before .before .before .before .way-in .ensures)
 
--- src/lib.rt:437:1
 returns-4 : tie.Need-returns-4
 unfolding putIn putBy
 returns-4 c = simp (c .before .enum-told2 .given .1, ne-eqb _ _ (c .before .before .before .before .if1 .left), ← c .put-waits .ensures, ← c .before .before .before .way-in .ensures)

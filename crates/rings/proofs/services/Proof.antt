@@ -9,9 +9,6 @@ use Rattle.rings.specs.Serving.{service, services}
 use Rattle.rings.proofs.Laws.{one-more, no-more}
 use Rattle.rings.proofs.services.Statement.{statement}
 use Rattle.rings.proofs.services.Tie as tie
-use Rattle.rings.proofs.services.Reads as reads
-use Rattle.rings.proofs.services.Lts as lts
-use Rattle.rings.proofs.service.Reads as service-reads
 
 abbrev Inv-loop : tie.InvT-loop
 Inv-loop b plan count next₀ i₀ next i = (i ≤ count) × (services b (drop i (take count (plan .served))) next ≡ services b (take count (plan .served)) next₀)
@@ -19,46 +16,36 @@ Inv-loop b plan count next₀ i₀ next i = (i ≤ count) × (services b (drop i
 abbrev μ-loop : tie.MeasureT-loop
 μ-loop b plan count next₀ i₀ next i = count - i
 
--- src/lib.rt:281:17
 cast-count : tie.Need-cast-count Inv-loop μ-loop
 cast-count c = search needs
 
--- src/lib.rt:281:40
 cast-count-2 : tie.Need-cast-count-2 Inv-loop μ-loop
 cast-count-2 c = search needs
 
--- src/lib.rt:281:17
 add-count : tie.Need-add-count Inv-loop μ-loop
 add-count c = search needs
 
--- src/lib.rt:284:5
 loop-holds : tie.Need-loop-holds Inv-loop μ-loop
 loop-holds c = (search needs, refl)
 
--- src/lib.rt:285:33
 element-copy-out-service : tie.Need-element-copy-out-service Inv-loop μ-loop
 element-copy-out-service c = search needs
 
--- src/lib.rt:285:9
 service-requires : tie.Need-service-requires Inv-loop μ-loop
 service-requires c κs = search needs
 
--- src/lib.rt:286:9
 add-i : tie.Need-add-i Inv-loop μ-loop
 add-i c = search needs
 
--- src/lib.rt:284:5
 loop-less : tie.Need-loop-less Inv-loop μ-loop
 loop-less c = search needs
 
--- src/lib.rt:284:5
 loop-again : tie.Need-loop-again Inv-loop μ-loop
 loop-again c =
     let plan = c .before .before .before .before .args .t3 in
     let long : length (plan .served) ≡ 64 = search (len-map, needs) in
     (search needs, one-more (c .before .before .before .before .args .b) (plan .served) (plan .getter + plan .putter) (c .before .before .before .loop .i) _ _ _ (omega arith) (omega arith) refl (c .service .ensures) ∙ c .before .before .before .loop .inv .1)
 
--- src/lib.rt:277:1
 returns : tie.Need-returns Inv-loop μ-loop
 returns c =
     let plan = c .before .before .args .t3 in
