@@ -33,17 +33,17 @@ lowFirst-number (b ∷ s) h =
     rw (low, rest) (ap (λ l. b ∷ l) (lowFirst-number s (λ i. h (suc i))))
 
 -- A part of a list of bytes has bytes only
-bytes-drop : (n : ℕ) (s : List ℕ) → Bytes s → Bytes (drop n s)
+pub bytes-drop : (n : ℕ) (s : List ℕ) → Bytes s → Bytes (drop n s)
 bytes-drop n s b i = rw getD-drop (b (n + i))
 
-bytes-take : (n : ℕ) (s : List ℕ) → Bytes s → Bytes (take n s)
+pub bytes-take : (n : ℕ) (s : List ℕ) → Bytes s → Bytes (take n s)
 bytes-take zero s b i = omega arith
 bytes-take (suc n) [] b i = b i
 bytes-take (suc n) (x ∷ s) b zero = b zero
 bytes-take (suc n) (x ∷ s) b (suc i) = bytes-take n s (λ j. b (suc j)) i
 
 -- The number of n bytes is below 256 ^ n
-number-range : (s : List ℕ) → Bytes s → number s < 256 ^ length s
+pub number-range : (s : List ℕ) → Bytes s → number s < 256 ^ length s
 unfolding number
 number-range [] h = omega arith
 number-range (b ∷ s) h = rw pow-suc (omega (arith, h 0, number-range s (λ i. h (suc i))))

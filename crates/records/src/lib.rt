@@ -23,7 +23,7 @@ pub struct Record {
 }
 
 // The number of four bytes, low byte first.
-fn number_of(a: u8, b: u8, c: u8, d: u8) -> u32
+pub fn number_of(a: u8, b: u8, c: u8, d: u8) -> u32
     ensures { λ r. ⌜ r ≡ number (a ∷ b ∷ c ∷ d ∷ []) ⌝ }
 {
     a as u32 + 256 * (b as u32 + 256 * (c as u32 + 256 * (d as u32)))

@@ -61,6 +61,10 @@ inTurn lengths size held getters putters = who (length getters + length putters)
 abbrev pub chosen : Plan → List ℕ
 chosen plan = take (plan .getter + plan .putter) (plan .served)
 
+-- Those whom the rule still serves after them
+abbrev pub toCome : List ℕ → ℕ → Plan → List ℕ → List ℕ → List ℕ
+toCome lengths size plan getters putters = inTurn lengths size (plan .held) (drop (plan .getter) getters) (drop (plan .putter) putters)
+
 -- So many bytes of the parcel enter the ring in bay b
 unfoldable pub entered : ℕ → Parcel → ℕ → Tables → Tables
 entered b parcel l t = withRing t b (putOf (ringIn t b) parcel 0 l)
@@ -88,6 +92,7 @@ servedAs b p (Getting n l) t = servedGetter b p l t
 servedAs b p (Putting n l) t = servedPutter b p l t
 servedAs b p (Asleep k) t = t
 
+-- Process p is served there
 unfoldable pub service : ℕ → ℕ → Tables → Tables
 service b p t = servedAs b p (processOf t p .place) t
 
@@ -147,6 +152,7 @@ leavingAs p (Getting n l) t = bytesFrom (parcelFor t p) 0 l
 leavingAs p (Putting n l) t = []
 leavingAs p (Asleep k) t = []
 
+-- The same by its number
 unfoldable pub entering : ℕ → Tables → List ℕ
 entering p t = enteringAs p (processOf t p .place) t
 

@@ -24,8 +24,8 @@ ghost use Rattle.rings.specs.Serving.{
   lengthsOf,
   lengthFor,
   getterGoes,
-  inTurn,
   chosen,
+  toCome,
   turns,
   entered,
   withMoved,
@@ -187,7 +187,7 @@ fn serve_getter(
     lengths: &[u8; 32],
 ) -> Plan
     requires { ⌜ (length (now getters) ≡ 32) × (length (now putters) ≡ 32) × (length (now lengths) ≡ 32) × (plan .getter ≤ 32) × (plan .putter ≤ 32) ⌝ }
-    ensures { λ r. ⌜ (r .getter ≤ 32) × (r .putter ≤ 32) × (chosen r ≡ chosen plan ++ inTurn (now (lengths .entry)) size (plan .held) (drop (plan .getter) (now (getters .entry))) (drop (plan .putter) (now (putters .entry)))) ⌝ }
+    ensures { λ r. ⌜ (r .getter ≤ 32) × (r .putter ≤ 32) × (chosen r ≡ chosen plan ++ toCome (now (lengths .entry)) size plan (now (getters .entry)) (now (putters .entry))) ⌝ }
 {
     let p = member(getters, plan.getter);
     let l = length_for(lengths, p);
@@ -207,7 +207,7 @@ fn serve_putter(
 ) -> Plan
     requires { ⌜ (length (now getters) ≡ 32) × (length (now putters) ≡ 32) × (length (now lengths) ≡ 32) × (plan .getter ≤ 32) × (plan .putter ≤ 32) ⌝ }
     requires { ⌜ getterGoes (now lengths) (plan .held) (drop (plan .getter) (now getters)) ≡ false ⌝ }
-    ensures { λ r. ⌜ (r .getter ≤ 32) × (r .putter ≤ 32) × (chosen r ≡ chosen plan ++ inTurn (now (lengths .entry)) size (plan .held) (drop (plan .getter) (now (getters .entry))) (drop (plan .putter) (now (putters .entry)))) ⌝ }
+    ensures { λ r. ⌜ (r .getter ≤ 32) × (r .putter ≤ 32) × (chosen r ≡ chosen plan ++ toCome (now (lengths .entry)) size plan (now (getters .entry)) (now (putters .entry))) ⌝ }
 {
     let p = member(putters, plan.putter);
     let l = length_for(lengths, p);

@@ -1,0 +1,77 @@
+-- What the loops over tables do: one entry more is written, read, compared.
+use Prim.Native.Nat.{ℕ, _+_, _*_, _≤_, _<_}
+use mathlib.Core.Path.{_≡_, refl, sym, ap, _∙_}
+use mathlib.Core.Bool.{Bool, true, false, _&&_}
+use mathlib.Core.List.{List, [], _∷_, _++_}
+use native.Mathlib.Omega.{arith}
+use native.Mathlib.Nat.{mul-le-mul-right}
+use native.Mathlib.Numerals.{add-one}
+use lib.ListN.{length, getD, set, take, length-append}
+use lib.Seq.{length-take-le, take-all, take-suc}
+use Rattle.layout.specs.Pieces.{flat, copiedIn, allTo, part, same}
+use Rattle.layout.specs.PieceLaws.{copied-none, copied-byte, copied-whole, copied-join, flat-append, flat-one, length-flat}
+use Rattle.layout.specs.Typed.{Every, every-at, every-take}
+
+-- ---- written
+
+-- s is s₀ with the first i entries of l, w bytes each, from its byte `at` on
+pub record Written {A : Type 0} (f : A → List ℕ) (w at : ℕ) (l : List A) (s₀ s : List ℕ) (i : ℕ) : Type 0 where
+  pub room : at + length l * w ≤ length s₀
+  pub wide : Every (λ x. length (f x) ≡ w) l
+  pub done : s ≡ copiedIn s₀ at (flat f (take i l))
+
+module _ {A : Type 0} (f : A → List ℕ) (w at : ℕ) (l : List A) (s₀ : List ℕ) where
+  pub written-none : at + length l * w ≤ length s₀ → Every (λ x. length (f x) ≡ w) l → Written f w at l s₀ s₀ 0
+  unfolding flat
+  written-none h e = record { room = h; wide = e; done = sym (copied-none s₀ at) }
+
+  pub written-more : (s b next : List ℕ) (i : ℕ) (d : A) → Written f w at l s₀ s i → i < length l → b ≡ f (getD l i d) → next ≡ copiedIn s (at + i * w) b → Written f w at l s₀ next (i + 1)
+  written-more s b next i d k h e n =
+      let short : length (take i l) ≡ i = length-take-le i l (omega arith) in
+      let front : length (flat f (take i l)) ≡ i * w = rw short at (length-flat f w (take i l) (every-take _ i l (k .wide))) in
+      let fits : i * w ≤ length l * w = mul-le-mul-right w (omega arith) in
+      let join : flat f (take (i + 1) l) ≡ flat f (take i l) ++ b = rw (add-one, take-suc l i d, flat-append, flat-one, e) in
+      record {
+        room = k .room;
+        wide = k .wide;
+        done = n ∙ rw (k .done, join) (copied-join s₀ at (at + i * w) (flat f (take i l)) b (omega (arith, k .room)) (omega arith));
+      }
+
+  -- How wide the next entry is
+  pub written-wide : (s : List ℕ) (i : ℕ) (d : A) → Written f w at l s₀ s i → i < length l → length (f (getD l i d)) ≡ w
+  written-wide s i d k h = every-at _ l i d (k .wide) h
+
+  pub written-all : (s : List ℕ) (i : ℕ) → Written f w at l s₀ s i → length l ≤ i → s ≡ copiedIn s₀ at (flat f l)
+  written-all s i k h = rw (take-all i l h) at (k .done)
+
+-- ---- compared
+
+-- One more passes or not
+pub allTo-more : (f : ℕ → Bool) (i : ℕ) (ok b : Bool) → ok ≡ allTo i f → b ≡ f i → ok && b ≡ allTo (i + 1) f
+unfolding allTo
+allTo-more f i ok b e g = rw (add-one, e, g)
+
+-- Bytes that stand at their place, by what they are
+pub stands : (s b x : List ℕ) (at w : ℕ) (r : Bool) → r ≡ same b (part s at (length b)) → length b ≡ w → b ≡ x → r ≡ same x (part s at w)
+stands s b x at w r e l g = e ∙ rw (l, g)
+
+-- ---- one part behind the other
+
+-- s is s₀ with the bytes a, k of them, in front
+pub record Begun (s₀ a : List ℕ) (k : ℕ) (s : List ℕ) : Type 0 where
+  pub size : length a ≡ k
+  pub done : s ≡ copiedIn s₀ 0 a
+
+pub begun-byte : (s : List ℕ) (x : ℕ) → 0 < length s → Begun s (x ∷ []) 1 (set s 0 x)
+begun-byte s x h = record { size = refl; done = copied-byte s 0 x h }
+
+-- The next part follows
+pub begun-more : {s₀ a s : List ℕ} {k : ℕ} (b next : List ℕ) (n : ℕ) → Begun s₀ a k s → length b ≡ n → k ≤ length s₀ → next ≡ copiedIn s k b → Begun s₀ (a ++ b) (k + n) next
+begun-more {s₀} {a} {s} {k} b next n g e h c =
+    record {
+      size = rw (length-append, g .size, e);
+      done = c ∙ rw (g .done) (copied-join s₀ 0 k a b (omega (arith, g .size)) (omega (arith, g .size)));
+    }
+
+pub begun-all : {s₀ a s : List ℕ} {k : ℕ} → Begun s₀ a k s → k ≡ length s₀ → s ≡ a
+begun-all {s₀} {a} {s} {k} g e = g .done ∙ copied-whole s₀ a (g .size ∙ e)
