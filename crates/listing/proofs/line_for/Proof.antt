@@ -12,7 +12,7 @@ line-of-requires : tie.Need-line-of-requires
 line-of-requires c κs = search needs
 
 returns : tie.Need-returns
-returns c = c .line-of .ensures ∙ ap (λ r. lined (lineOf (c .before .before .args .call) r)) (c .before .read .ensures)
+returns c = c .line-of .ensures ∙ ap (λ r. lined (lineOf (c .before .before .before .args .call) r)) (c .before .read .ensures)
 
 pub line-for-spec : {M : Type 1} → statement M
 line-for-spec = tie.close (tie.spec read-requires line-of-requires returns)
