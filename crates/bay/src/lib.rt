@@ -65,7 +65,7 @@ pub fn ring_of_size(size: u16) -> Ring
 }
 
 // Whether these are the numbers of a ring: a size of at most 256, a start below it, no more held than it.
-fn in_range(start: u16, size: u16, held: u16) -> bool
+pub fn in_range(start: u16, size: u16, held: u16) -> bool
     ensures { λ r. ⌜ r ≡ inRange start size held ⌝ }
 {
     if size > 256 {

@@ -74,6 +74,11 @@ written-lined a (x ∷ b) h =
 pub written-whole : (text : List ℕ) → length text ≤ room → written (lined []) text ≡ lined text
 written-whole text h = written-lined [] text (omega arith)
 
+-- A line's length is within its bytes, so that a caller may take that many
+pub lined-within : {l : Line} (text : List ℕ) → l ≡ lined text → l .length ≤ length (l .bytes)
+unfolding lined
+lined-within text e = rw (e, length-append) (omega arith)
+
 -- By the ranges of its fields every line has room
 pub line-long : (call : ℕ) (r : Record) → call < 256 → r .what < 256 → r .who < 256 → r .n < 256 → r .l < 256 → r .m < 2 ^ 32 → length (lineOf call r) ≤ room
 unfolding lineOf field

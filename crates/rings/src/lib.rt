@@ -75,7 +75,7 @@ pub enum Way {
 }
 
 // The bytes that a process in this place wants or brings.
-fn asked_in(place: Place) -> u8
+pub fn asked_in(place: Place) -> u8
     ensures { λ r. ⌜ r ≡ asked place ⌝ }
 {
     match place {
@@ -133,7 +133,7 @@ fn member(line: &[u8; 32], at: u8) -> u8
 }
 
 // Can p, the head getter, be served: does it want no more than is held?
-fn getter_goes(p: u8, l: u8, held: u16) -> bool
+pub fn getter_goes(p: u8, l: u8, held: u16) -> bool
     ensures { λ r. ⌜ r ≡ cond (eqb p 0) false (leb l held) ⌝ }
 {
     if p == 0 {
@@ -143,7 +143,7 @@ fn getter_goes(p: u8, l: u8, held: u16) -> bool
 }
 
 // Can p, the head putter, be served: is there room for what it brings?
-fn putter_goes(p: u8, l: u8, held: u16, size: u16) -> bool
+pub fn putter_goes(p: u8, l: u8, held: u16, size: u16) -> bool
     ensures { λ r. ⌜ r ≡ cond (eqb p 0) false (leb (held + l) size) ⌝ }
 {
     if p == 0 {
