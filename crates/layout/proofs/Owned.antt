@@ -1,18 +1,16 @@
 -- What owning tables tells: by their types their fields are in range. A proof has it of a parameter by `c .good`, of a call's result by `.ok`.
-use Prim.Native.Nat.{ℕ, zero, suc, _<_, _^_}
+use Prim.Native.Nat.{ℕ, zero, suc, _<_}
 use mathlib.Core.Path.{_≡_}
 use mathlib.Core.List.{List, [], _∷_, map}
 use native.Mathlib.Omega.{arith}
 use borrow.Author.Needs.{needs}
 use mir.Val.{Val}
-use mir.Syntax.{w8}
 use denote.Shadow.{shadow}
 use denote.RattleType.{RattleType}
 use denote.Array.{Array, each}
 use denote.Struct.Declared.{row}
-use denote.Plain.{UInt}
 use denote.Struct.Field.{Field, u8-field, array-field}
-use lib.ListN.{length, getD, length-map}
+use lib.ListN.{length}
 use Rattle.basics.specs.Lists.{len-map}
 use Rattle.bay.specs.declared.Holding.{Holding}
 use Rattle.bay.specs.declared.Holding.the-variants as holdings

@@ -5,10 +5,9 @@ use mathlib.Core.Bool.{Bool, true, false, cond, _&&_, true≢false}
 use mathlib.Core.List.{List, [], _∷_, _++_, append-assoc, append-nil}
 use native.Mathlib.Omega.{arith}
 use native.Mathlib.Nat.{suc-mul, zero-mul, mul-le-mul-right}
-use borrow.Author.Tests.{eq-eqb, ne-eqb, eqb-true, eqb-false}
+use borrow.Author.Tests.{eq-eqb, ne-eqb, eqb-true}
 use lib.Dec.{eqb}
 use lib.ListN.{length, getD, take, drop, replicate, length-append, length-drop, length-replicate, replicate-append-replicate}
-use lib.Seq.{length-take-le, take-all}
 use Rattle.basics.specs.Tests.{test, holds, fails}
 use Rattle.bay.specs.declared.Holding.{Holding}
 use Rattle.bay.specs.declared.Holding.the-variants as holdings
@@ -29,7 +28,7 @@ use Rattle.records.specs.Laws.{number-lowFirst, lowFirst-number, bytes-drop, by
 use Rattle.layout.specs.Pieces.{flat, entries, allTo, part, same}
 use Rattle.layout.specs.PieceLaws.{length-part, part-bytes, part-join, part-first, part-second, part-whole, length-flat, flat-part, length-entries, getD-entries, entries-are, every-entry, flat-entries, same-true, same-refl, allTo-each, each-allTo}
 use Rattle.layout.specs.Typed.{Every, every-at, every-of, every-map, PlaceTyped, KindTyped, HoldingTyped, ProcessTyped, StructureTyped, RingTyped, ParcelTyped, Typed}
-use Rattle.layout.specs.Layout.{orderAt, processesAt, structuresAt, baysAt, holdingsAt, ringBytesAt, parcelBytesAt, stateLength, flag, placeOf, processBytes, processFrom, valueOf, kindOf, structureBytes, structureFrom, bayBytes, bayFrom, ringBytes, holdingFlag, holdingLength, holdingOf, holdingBytes, parcelFrom, parcelBytes, encode, processIn, structureIn, bayIn, parcelIn, tablesOf, decode, writtenTo, processKept, structureKept, holdingKept, isState}
+use Rattle.layout.specs.Layout.{orderAt, processesAt, structuresAt, baysAt, holdingsAt, ringBytesAt, parcelBytesAt, stateLength, flag, placeOf, processBytes, processFrom, valueOf, kindOf, structureBytes, structureFrom, bayBytes, bayFrom, ringBytes, holdingFlag, holdingLength, holdingOf, holdingBytes, parcelFrom, parcelBytes, encode, processIn, structureIn, bayIn, parcelIn, tablesOf, decode, writtenTo, processKept, structureKept, holdingKept, processesKept, structuresKept, holdingsKept, isState}
 
 -- ---- how wide the entries are
 
@@ -485,17 +484,8 @@ bay-kept b l h y =
     two at k = rw (length-part b at 2 (omega arith)) at (lowFirst-number (part b at 2) (bytes-part b y at 2))
 
 -- Reading loses nothing of the processes, the structures, and what the parcels hold
-abbrev pub processesSame : List ℕ → Bool
-processesSame s = allTo 32 (λ i. processKept (part s (processesAt + i * 8) 8))
-
-abbrev pub structuresSame : List ℕ → Bool
-structuresSame s = allTo 24 (λ i. structureKept (part s (structuresAt + i * 3) 3))
-
-abbrev pub holdingsSame : List ℕ → Bool
-holdingsSame s = allTo 32 (λ i. holdingKept (part s (holdingsAt + i * 2) 2))
-
 abbrev pub kept : List ℕ → Bool
-kept s = processesSame s && structuresSame s && holdingsSame s
+kept s = processesKept s && structuresKept s && holdingsKept s
 
 module _ (s : List ℕ) (long : length s ≡ stateLength) (bytes : Bytes s) where
   decode-long : decode s ≡ tablesOf s
@@ -512,11 +502,11 @@ module _ (s : List ℕ) (long : length s ≡ stateLength) (bytes : Bytes s) wher
   unfolding entries
   running-kept = rw (part-bytes s 0 1 (omega arith))
 
-  processes-kept : allTo 32 (λ i. processKept (part s (processesAt + i * 8) 8)) ≡ true → flat processBytes (entries 32 (processIn s)) ≡ part s processesAt 256
+  processes-kept : processesKept s ≡ true → flat processBytes (entries 32 (processIn s)) ≡ part s processesAt 256
   unfolding processIn processKept
   processes-kept k = flat-entries (processIn s) processBytes s processesAt 8 32 (λ i h. same-true _ _ (allTo-each 32 _ k i h))
 
-  structures-kept : allTo 24 (λ i. structureKept (part s (structuresAt + i * 3) 3)) ≡ true → flat structureBytes (entries 24 (structureIn s)) ≡ part s structuresAt 72
+  structures-kept : structuresKept s ≡ true → flat structureBytes (entries 24 (structureIn s)) ≡ part s structuresAt 72
   unfolding structureIn structureKept
   structures-kept k = flat-entries (structureIn s) structureBytes s structuresAt 3 24 (λ i h. same-true _ _ (allTo-each 24 _ k i h))
 
@@ -524,7 +514,7 @@ module _ (s : List ℕ) (long : length s ≡ stateLength) (bytes : Bytes s) wher
   unfolding bayIn
   bays-kept = flat-entries (bayIn s) bayBytes s baysAt 6 8 (λ i h. bay-kept (part s (baysAt + i * 6) 6) (part s (ringBytesAt + i * 256) 256) (length-part s (baysAt + i * 6) 6 (omega arith)) (bytes-part s bytes (baysAt + i * 6) 6))
 
-  holdings-kept : allTo 32 (λ i. holdingKept (part s (holdingsAt + i * 2) 2)) ≡ true → flat holdingBytes (entries 32 (parcelIn s)) ≡ part s holdingsAt 64
+  holdings-kept : holdingsKept s ≡ true → flat holdingBytes (entries 32 (parcelIn s)) ≡ part s holdingsAt 64
   unfolding parcelIn holdingKept holdingBytes parcelFrom
   holdings-kept k = flat-entries (parcelIn s) holdingBytes s holdingsAt 2 32 (λ i h. same-true _ _ (allTo-each 32 _ k i h))
 
@@ -540,8 +530,8 @@ module _ (s : List ℕ) (long : length s ≡ stateLength) (bytes : Bytes s) wher
   kept-same : kept s ≡ true → encode (tablesOf s) ≡ s
   unfolding encode tablesOf
   kept-same e =
-      let both : (processesSame s && structuresSame s ≡ true) × (holdingsSame s ≡ true) = and-true _ _ e in
-      let each : (processesSame s ≡ true) × (structuresSame s ≡ true) = and-true _ _ (both .0) in
+      let both : (processesKept s && structuresKept s ≡ true) × (holdingsKept s ≡ true) = and-true _ _ e in
+      let each : (processesKept s ≡ true) × (structuresKept s ≡ true) = and-true _ _ (both .0) in
       together running-kept refl (processes-kept (each .0)) (structures-kept (each .1)) bays-kept (holdings-kept (both .1)) rings-kept parcels-kept ∙ all-parts
 
   -- and the other way

@@ -1,10 +1,9 @@
 -- The state's bytes, as docs/LAYOUT.md lists them. Fresh tables are all zero bytes.
-use Prim.Native.Nat.{ℕ, _+_, _*_, _%_, _^_, _<_}
-use mathlib.Core.Path.{_≡_}
+use Prim.Native.Nat.{ℕ, _+_, _*_, _%_}
 use mathlib.Core.Bool.{Bool, true, false, cond}
 use mathlib.Core.List.{List, [], _∷_, _++_}
 use lib.Dec.{eqb}
-use lib.ListN.{length, getD, take, drop}
+use lib.ListN.{length, getD, drop}
 use Rattle.bay.specs.declared.Holding.{Holding}
 use Rattle.bay.specs.declared.Holding.the-variants.{Nothing, Bytes}
 use Rattle.bay.specs.declared.Parcel.{Parcel}
@@ -19,7 +18,7 @@ use Rattle.tables.specs.declared.Kind.the-variants as kinds
 use Rattle.tables.specs.Numbers.{code, spot, amount, kindNumber}
 use Rattle.tables.specs.Access.{fresh}
 use Rattle.records.specs.Records.{number, lowFirst}
-use Rattle.layout.specs.Pieces.{flat, entries, part, same}
+use Rattle.layout.specs.Pieces.{flat, entries, allTo, part, same}
 
 -- ---- where each part begins: the control part first, then the bays' bytes, then the parcels'
 
@@ -179,6 +178,16 @@ structureKept b = same (structureBytes (structureFrom b)) b
 
 unfoldable pub holdingKept : List ℕ → Bool
 holdingKept b = same (holdingBytes (parcelFrom b [])) b
+
+-- Nor of those of all processes, all structures, all parcels
+abbrev pub processesKept : List ℕ → Bool
+processesKept s = allTo 32 (λ i. processKept (part s (processesAt + i * 8) 8))
+
+abbrev pub structuresKept : List ℕ → Bool
+structuresKept s = allTo 24 (λ i. structureKept (part s (structuresAt + i * 3) 3))
+
+abbrev pub holdingsKept : List ℕ → Bool
+holdingsKept s = allTo 32 (λ i. holdingKept (part s (holdingsAt + i * 2) 2))
 
 -- Are these the bytes of some tables? Read and written again they are the same
 unfoldable pub isState : List ℕ → Bool

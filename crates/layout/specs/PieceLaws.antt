@@ -1,15 +1,15 @@
 -- The laws of bytes in pieces: copies that follow each other join, and a table's bytes hold its entries one by one. Assumes nothing.
 use Prim.Native.Nat.{ℕ, zero, suc, _+_, _*_, _-_, _≤_, _<_}
 use mathlib.Core.Path.{_≡_, refl, sym, ap, _∙_}
-use mathlib.Core.Bool.{Bool, true, false, _&&_, true≢false}
+use mathlib.Core.Bool.{Bool, true, _&&_, true≢false}
 use mathlib.Core.List.{List, [], _∷_, _++_, append-nil, append-assoc}
 use native.Mathlib.Omega.{arith}
-use native.Mathlib.Nat.{suc-mul, zero-mul, add-zero, zero-add}
+use native.Mathlib.Nat.{suc-mul, zero-mul, add-zero}
 use native.Mathlib.Numerals.{add-one}
 use borrow.Author.Tests.{eq-eqb, eqb-true, eqb-false}
 use lib.Dec.{eqb}
 use lib.ListN.{length, getD, set, take, drop, length-append, length-drop, take-append-drop, List·getD-append, drop-of-length-le}
-use lib.Seq.{length-take-le, take-all, take-length, take-suc, take-at, drop-at, drop-drop, take-add, take-append-le, drop-append-le, drop-append-add, take-suc-set, set-split, getD-drop, getD-at, ext-getD, append-snoc}
+use lib.Seq.{length-take-le, take-all, take-suc, take-at, drop-drop, take-add, take-append-le, drop-append-le, drop-append-add, take-suc-set, set-split, getD-drop, getD-at, ext-getD, append-snoc}
 use Rattle.basics.specs.Tests.{test, holds, fails}
 use Rattle.layout.specs.Pieces.{flat, entries, allTo, part, copiedIn, same}
 use Rattle.layout.specs.Typed.{Every}
@@ -221,12 +221,12 @@ copied-next s at b i h k =
     (copied-join s at (at + i) (take i b) (getD b i 0 ∷ []) (omega arith) (omega arith))
 
 -- One byte more is compared
-pub same-next : (b s : List ℕ) (at i : ℕ) → i < length b → at + length b ≤ length s → same (take (i + 1) b) (part s at (i + 1)) ≡ same (take i b) (part s at i) && eqb (getD b i 0) (getD s (at + i) 0)
+pub same-next : (b s : List ℕ) (at i : ℕ) (ok : Bool) → i < length b → at + length b ≤ length s → ok ≡ same (take i b) (part s at i) → ok && eqb (getD b i 0) (getD s (at + i) 0) ≡ same (take (i + 1) b) (part s at (i + 1))
 unfolding part
-same-next b s at i h k =
+same-next b s at i ok h k e =
     let room : i < length (drop at s) = rw length-drop (omega arith) in
-    rw (add-one, take-suc b i 0, take-suc (drop at s) i 0, getD-drop)
-    (same-more (take i b) (take i (drop at s)) (getD b i 0) (getD s (at + i) 0) (length-take-le i b (omega arith) ∙ sym (length-take-le i (drop at s) (omega arith))))
+    rw (e, add-one, take-suc b i 0, take-suc (drop at s) i 0, getD-drop)
+    (sym (same-more (take i b) (take i (drop at s)) (getD b i 0) (getD s (at + i) 0) (length-take-le i b (omega arith) ∙ sym (length-take-le i (drop at s) (omega arith)))))
 
 -- A part copied over an array of its length
 pub copied-part : (d s l : List ℕ) (from n : ℕ) → from + n ≤ length s → length d ≡ n → l ≡ copiedIn d 0 (take (from + n - from) (drop from s)) → l ≡ part s from n

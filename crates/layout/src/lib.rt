@@ -9,11 +9,11 @@ use tables::Structure;
 use tables::Tables;
 ghost use mathlib.Core.Path.{_≡_};
 ghost use mathlib.Core.List.{[], _∷_, _++_};
-ghost use Prim.Native.Nat.{_+_, _*_, _≤_, _<_};
+ghost use Prim.Native.Nat.{_+_, _≤_};
 ghost use lib.ListN.{length};
 ghost use Rattle.tables.specs.Numbers.{amount};
 ghost use Rattle.records.specs.Records.{number, lowFirst};
-ghost use Rattle.layout.specs.Pieces.{flat, entries, allTo, part, copiedIn, same};
+ghost use Rattle.layout.specs.Pieces.{flat, entries, part, copiedIn, same};
 ghost use Rattle.layout.specs.Layout.{
   processesAt,
   structuresAt,
@@ -45,9 +45,9 @@ ghost use Rattle.layout.specs.Layout.{
   parcelIn,
   decode,
   writtenTo,
-  processKept,
-  structureKept,
-  holdingKept,
+  processesKept,
+  structuresKept,
+  holdingsKept,
   isState,
 };
 
@@ -480,7 +480,7 @@ pub fn read(s: &[u8]) -> Tables
 // Does reading lose nothing of the bytes of each process?
 fn processes_kept(s: &[u8]) -> bool
     requires { ⌜ length (now s) ≡ stateLength ⌝ }
-    ensures { λ r. ⌜ r ≡ allTo 32 (λ i. processKept (part (now (s .entry)) (processesAt + i * 8) 8)) ⌝ }
+    ensures { λ r. ⌜ r ≡ processesKept (now (s .entry)) ⌝ }
 {
     let mut ok = true;
     let mut i = 0;
@@ -496,7 +496,7 @@ fn processes_kept(s: &[u8]) -> bool
 // Does reading lose nothing of the bytes of each structure?
 fn structures_kept(s: &[u8]) -> bool
     requires { ⌜ length (now s) ≡ stateLength ⌝ }
-    ensures { λ r. ⌜ r ≡ allTo 24 (λ i. structureKept (part (now (s .entry)) (structuresAt + i * 3) 3)) ⌝ }
+    ensures { λ r. ⌜ r ≡ structuresKept (now (s .entry)) ⌝ }
 {
     let mut ok = true;
     let mut i = 0;
@@ -512,7 +512,7 @@ fn structures_kept(s: &[u8]) -> bool
 // Does reading lose nothing of what each parcel holds?
 fn holdings_kept(s: &[u8]) -> bool
     requires { ⌜ length (now s) ≡ stateLength ⌝ }
-    ensures { λ r. ⌜ r ≡ allTo 32 (λ i. holdingKept (part (now (s .entry)) (holdingsAt + i * 2) 2)) ⌝ }
+    ensures { λ r. ⌜ r ≡ holdingsKept (now (s .entry)) ⌝ }
 {
     let mut ok = true;
     let mut i = 0;

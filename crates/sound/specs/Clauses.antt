@@ -144,9 +144,10 @@ unfolding parcelOf
 parcel-read bytes b l e = let h = ap (λ (x : Parcel). x .holds) e in (ap (λ (x : Parcel). x .bytes) e, cc)
 
 parcel-zero : (b bytes : List ℕ) (l : ℕ) → bytes ≡ b ++ zeros (64 - length b) → l ≡ length b → length b ≤ 64 → (length bytes ≡ 64) × (allZero (drop l bytes) ≡ true)
-parcel-zero b bytes l e f h =
-    (rw (e, length-append, length-zeros) (omega arith),
-    rw (e, f, drop-append-seam) (zeros-decided (zeros (64 - length b)) .sure (rw length-zeros)))
+parcel-zero b bytes l e f h = (
+  rw (e, length-append, length-zeros) (omega arith),
+  rw (e, f, drop-append-seam) (zeros-decided (zeros (64 - length b)) .sure (rw length-zeros)),
+)
 
 -- A parcel that holds nothing is the empty one exactly when it is all zero
 empty-made : (bytes : List ℕ) → bytes ≡ zeros 64 → record { bytes = bytes; holds = Nothing } ≡ emptyParcel
@@ -174,6 +175,7 @@ kept-as bytes Nothing =
   where
     made : (length bytes ≡ 64) × (bytes ≡ zeros (length bytes)) → Kept (record { bytes = bytes; holds = Nothing })
     made w = none (empty-made bytes (w .1 ∙ ap zeros (w .0)))
+
     read : Kept (record { bytes = bytes; holds = Nothing }) → (length bytes ≡ 64) × (bytes ≡ zeros (length bytes))
     read (none e) = empty-read bytes e
     read (some b u v e) = absurd (nothing-none bytes b e)
@@ -184,6 +186,7 @@ kept-as bytes (Bytes l) =
     made w =
         let size : length (take l bytes) ≡ l = length-take-le l bytes (omega arith) in
         some (take l bytes) (rw size (w .0 .0)) (rw size (w .0 .1)) (parcel-made bytes l (w .0 .1) (w .1 .0) (w .1 .1))
+
     read : Kept (record { bytes = bytes; holds = Bytes l }) → ((1 ≤ l) × (l ≤ 64)) × ((length bytes ≡ 64) × (allZero (drop l bytes) ≡ true))
     read (none e) = absurd (bytes-some bytes l e)
     read (some b u v e) =

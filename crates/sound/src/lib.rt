@@ -477,7 +477,15 @@ fn settled(t: Tables) -> bool
 }
 
 // Could neither head of a structure's lines be served, if it is a ring?
-fn still_fits(kind: Kind, size: u16, held: u16, getter: u8, wants: u8, putter: u8, brings: u8) -> bool
+fn still_fits(
+    kind: Kind,
+    size: u16,
+    held: u16,
+    getter: u8,
+    wants: u8,
+    putter: u8,
+    brings: u8,
+) -> bool
     ensures { λ r. ⌜ r ≡ restsTested kind size held getter wants putter brings ⌝ }
 {
     if !tables::is_ring(kind) {

@@ -1,7 +1,8 @@
+-- `layout::holdings_kept` meets its contract: at i what the first i parcels hold is compared.
 use native.Mathlib.Nat.{add-zero}
 use Rattle.layout.specs.PieceLaws.{part-bytes}
 use Prim.Native.Nat.{_≤_, _-_, _+_, _*_}
-use mathlib.Core.Path.{_≡_, refl, ap, _∙_}
+use mathlib.Core.Path.{_≡_, refl}
 use native.Mathlib.Omega.{arith}
 use borrow.Author.Needs.{needs}
 use lib.ListN.{length}

@@ -1,3 +1,4 @@
+-- `layout::processes_kept` meets its contract: at i the first i processes are compared.
 use Prim.Native.Nat.{_≤_, _-_, _+_, _*_}
 use mathlib.Core.Path.{_≡_, refl, ap, _∙_}
 use native.Mathlib.Omega.{arith}

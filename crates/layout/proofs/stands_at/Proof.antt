@@ -1,5 +1,6 @@
+-- `layout::stands_at` meets its contract: at i the first i bytes are compared.
 use Prim.Native.Nat.{_≤_, _-_}
-use mathlib.Core.Path.{_≡_, refl, sym, _∙_}
+use mathlib.Core.Path.{_≡_, refl, sym}
 use native.Mathlib.Omega.{arith}
 use borrow.Author.Needs.{needs}
 use lib.ListN.{length, take}
@@ -38,7 +39,7 @@ loop-again : tie.Need-loop-again Inv-loop μ-loop
 loop-again c =
     let o = c .before .before .before .loop in
     let a = c .before .before .before .before .args in
-    (omega arith, rw (o .inv .1) (sym (same-next (a .b .now) (a .s .now) (a .at) (o .i) (omega arith) (omega arith))))
+    (omega arith, same-next (a .b .now) (a .s .now) (a .at) (o .i) _ (omega arith) (omega arith) (o .inv .1))
 
 returns : tie.Need-returns Inv-loop μ-loop
 returns c =

@@ -85,10 +85,13 @@ loop-again c =
     let x = getD (a .t3) (l .i - 1) 0 in
     let has = c .before .before .has-code in
     let entry = c .before .before .before .before .entry-of in
-    let there = laws.entry-seen (a .t2) x (entry .result) (has .result) _ _ processes (entry .ensures) (has .ensures) (c .before .if1 .taken) in
-    (l .inv .0, omega arith, rw (l .inv .2) (laws.one-head (a .c) (a .t2) (drop (l .i - 1) (a .t3)) (drop (l .i) (a .t3)) x (c .spot-of .result) (laws.back (a .t3) (l .i) 0 (omega arith) (omega arith))
-    (laws.code-seen (a .c) (a .t2) x (entry .result) (has .result) _ (l .inv .0) processes (entry .ensures) (has .ensures) ∙ c .before .if1 .taken)
-    (c .spot-of .ensures ∙ sym (ap spot there)) small))
+    let there = laws.entry-seen (a .t2) x (entry .result) (has .result) _ _ processes (entry .ensures) (has .ensures) (c .before .if1 .taken) in (
+      l .inv .0,
+      omega arith,
+      rw (l .inv .2) (laws.one-head (a .c) (a .t2) (drop (l .i - 1) (a .t3)) (drop (l .i) (a .t3)) x (c .spot-of .result) (laws.back (a .t3) (l .i) 0 (omega arith) (omega arith))
+          (laws.code-seen (a .c) (a .t2) x (entry .result) (has .result) _ (l .inv .0) processes (entry .ensures) (has .ensures) ∙ c .before .if1 .taken)
+          (c .spot-of .ensures ∙ sym (ap spot there)) small),
+    )
 
 -- src/lib.rt:136:5
 loop-less-2 : tie.Need-loop-less-2 Inv-loop μ-loop
@@ -103,9 +106,12 @@ loop-again-2 c =
     let processes : length (a .t2) ≡ 32 = search (len-map, needs) in
     let x = getD (a .t3) (l .i - 1) 0 in
     let has = c .before .has-code in
-    let entry = c .before .before .before .entry-of in
-    (l .inv .0, omega arith, l .inv .2 ∙ laws.no-head (a .c) (a .t2) (drop (l .i - 1) (a .t3)) (drop (l .i) (a .t3)) x (laws.back (a .t3) (l .i) 0 (omega arith) (omega arith))
-    (laws.code-seen (a .c) (a .t2) x (entry .result) (has .result) _ (l .inv .0) processes (entry .ensures) (has .ensures) ∙ c .if1 .left))
+    let entry = c .before .before .before .entry-of in (
+      l .inv .0,
+      omega arith,
+      l .inv .2 ∙ laws.no-head (a .c) (a .t2) (drop (l .i - 1) (a .t3)) (drop (l .i) (a .t3)) x (laws.back (a .t3) (l .i) 0 (omega arith) (omega arith))
+          (laws.code-seen (a .c) (a .t2) x (entry .result) (has .result) _ (l .inv .0) processes (entry .ensures) (has .ensures) ∙ c .if1 .left),
+    )
 
 -- src/lib.rt:130:1
 returns : tie.Need-returns Inv-loop μ-loop

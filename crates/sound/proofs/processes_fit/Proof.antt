@@ -156,10 +156,13 @@ loop-again c =
     let b = c .before .before .before .before .before .before .before .bay-of in
     let kind = laws.kind-seen (t .structures) (n .result) _ _ _ structures (c .before .before .before .before .before .before .before .before .before .before .structure-entry .ensures) (c .before .before .before .before .before .before .before .before .kind-named .ensures) (n .ensures) in
     let size = laws.amount-seen (λ r. r .size) (t .rings) (b .result) _ _ _ laws.no-size rings (c .before .before .before .before .before .before .bay-entry .ensures) (c .before .before .before .before .amount-named .ensures) (b .ensures) in
-    let listed = ap (λ (m : List ℕ). getD m (l .i + 1) 0) (times .ensures) ∙ laws.listed-at (t .order) (l .i + 1) (omega arith) in
-    (omega arith, l .inv .1, laws.turn _ (l .i) (l .ok) _ (l .inv .2)
-    (laws.process-turn t (l .i + 1) (laws.next-entry (t .processes) (l .i) nobody _ (omega arith)) (laws.next-entry (t .parcels) (l .i) emptyParcel _ (omega arith)) listed refl kind size
-    (c .before .before .before .listed-fits .ensures) (c .before .before .runs-fits .ensures) (c .before .place-fits .ensures) (c .parcel-fits .ensures)))
+    let listed = ap (λ (m : List ℕ). getD m (l .i + 1) 0) (times .ensures) ∙ laws.listed-at (t .order) (l .i + 1) (omega arith) in (
+      omega arith,
+      l .inv .1,
+      laws.turn _ (l .i) (l .ok) _ (l .inv .2)
+          (laws.process-turn t (l .i + 1) (laws.next-entry (t .processes) (l .i) nobody _ (omega arith)) (laws.next-entry (t .parcels) (l .i) emptyParcel _ (omega arith)) listed refl kind size
+          (c .before .before .before .listed-fits .ensures) (c .before .before .runs-fits .ensures) (c .before .place-fits .ensures) (c .parcel-fits .ensures)),
+    )
 
 -- src/lib.rt:318:1
 returns : tie.Need-returns Inv-loop μ-loop

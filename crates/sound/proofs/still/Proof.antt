@@ -150,16 +150,20 @@ loop-again c =
     let b = c .before .before .before .before .before .before .before .before .before .before .before .bay-of in
     let bay = c .before .before .before .before .before .before .before .before .before .before .bay-entry in
     let getters = ap (λ (m : List ℕ). getD m (l .i + 1) 0) (c .before .before .before .before .before .before .before .before .before .before .before .before .before .before .before .before .heads-of .ensures) ∙ laws.head-at 5 (t .processes) (t .order) (l .i + 1) (omega arith) in
-    let putters = ap (λ (m : List ℕ). getD m (l .i + 1) 0) (c .before .before .before .before .before .before .before .before .before .before .before .before .before .before .before .heads-of2 .ensures) ∙ laws.head-at 6 (t .processes) (t .order) (l .i + 1) (omega arith) in
-    (omega arith, l .inv .1, l .inv .2, laws.turn _ (l .i) (l .ok) (c .still-fits .result) (l .inv .3)
-    (c .still-fits .ensures
-    ∙ laws.still-turn t (l .i + 1) _ _ _ _ _ _ _
-    (laws.amount-seen (λ r. r .size) (t .rings) (b .result) _ _ _ laws.no-size rings (bay .ensures) (c .before .before .before .before .before .before .before .before .amount-named .ensures) (b .ensures))
-    (laws.amount-seen (λ r. r .held) (t .rings) (b .result) _ _ _ laws.no-bytes rings (bay .ensures) (c .before .before .before .before .before .before .before .amount-named2 .ensures) (b .ensures))
-    getters putters
-    (λ z. c .before .before .asked-in .ensures ∙ sym (ap asked (laws.head-entry 5 (t .processes) (t .order) (l .i + 1) _ _ _ (omega arith) processes getters z (c .before .before .before .before .before .before .entry-of .ensures))))
-    (λ z. c .before .asked-in2 .ensures ∙ sym (ap asked (laws.head-entry 6 (t .processes) (t .order) (l .i + 1) _ _ _ (omega arith) processes putters z (c .before .before .before .before .entry-of2 .ensures))))
-    ∙ ap (λ (s : Structure). stillTested (l .i + 1) t (s .kind)) (sym (laws.next-entry (t .structures) (l .i) nothing _ (omega arith)))))
+    let putters = ap (λ (m : List ℕ). getD m (l .i + 1) 0) (c .before .before .before .before .before .before .before .before .before .before .before .before .before .before .before .heads-of2 .ensures) ∙ laws.head-at 6 (t .processes) (t .order) (l .i + 1) (omega arith) in (
+      omega arith,
+      l .inv .1,
+      l .inv .2,
+      laws.turn _ (l .i) (l .ok) (c .still-fits .result) (l .inv .3)
+          (c .still-fits .ensures
+          ∙ laws.still-turn t (l .i + 1) _ _ _ _ _ _ _
+          (laws.amount-seen (λ r. r .size) (t .rings) (b .result) _ _ _ laws.no-size rings (bay .ensures) (c .before .before .before .before .before .before .before .before .amount-named .ensures) (b .ensures))
+          (laws.amount-seen (λ r. r .held) (t .rings) (b .result) _ _ _ laws.no-bytes rings (bay .ensures) (c .before .before .before .before .before .before .before .amount-named2 .ensures) (b .ensures))
+          getters putters
+          (λ z. c .before .before .asked-in .ensures ∙ sym (ap asked (laws.head-entry 5 (t .processes) (t .order) (l .i + 1) _ _ _ (omega arith) processes getters z (c .before .before .before .before .before .before .entry-of .ensures))))
+          (λ z. c .before .asked-in2 .ensures ∙ sym (ap asked (laws.head-entry 6 (t .processes) (t .order) (l .i + 1) _ _ _ (omega arith) processes putters z (c .before .before .before .before .entry-of2 .ensures))))
+          ∙ ap (λ (s : Structure). stillTested (l .i + 1) t (s .kind)) (sym (laws.next-entry (t .structures) (l .i) nothing _ (omega arith)))),
+    )
 
 -- src/lib.rt:465:1
 returns : tie.Need-returns Inv-loop μ-loop

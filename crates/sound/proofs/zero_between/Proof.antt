@@ -46,12 +46,13 @@ loop-less c = search needs
 loop-again : tie.Need-loop-again Inv-loop μ-loop
 loop-again c =
     let l = c .before .before .before .loop in
-    let a = c .before .before .before .before .args in
-    (l .inv .0,
-    ⊎-elim
-    (λ w. rw (w .1) (sym (not-zero-next (l .zero) (a .bytes .now) (l .i) (a .to) (omega arith) (l .inv .0) (w .0 .taken)) ∙ l .inv .1))
-    (λ w. rw (w .1) (sym (zero-next (l .zero) (a .bytes .now) (l .i) (a .to) (omega arith) (l .inv .0) (w .0 .left)) ∙ l .inv .1))
-    (c .if1 .came))
+    let a = c .before .before .before .before .args in (
+      l .inv .0,
+      ⊎-elim
+          (λ w. rw (w .1) (sym (not-zero-next (l .zero) (a .bytes .now) (l .i) (a .to) (omega arith) (l .inv .0) (w .0 .taken)) ∙ l .inv .1))
+          (λ w. rw (w .1) (sym (zero-next (l .zero) (a .bytes .now) (l .i) (a .to) (omega arith) (l .inv .0) (w .0 .left)) ∙ l .inv .1))
+          (c .if1 .came),
+    )
 
 -- src/lib.rt:54:1
 returns : tie.Need-returns Inv-loop μ-loop
