@@ -19,6 +19,7 @@ use Rattle.refusals.specs.Refusals.{unknownCall, both, either, badField, amount
 use Rattle.refusals.specs.Laws.{none-applies}
 use Rattle.ready.specs.Ready.{dispatched}
 use Rattle.steps.specs.Steps.{done, repliedBy, replied, refused, steppedBy, stepped}
+use Rattle.sound.specs.Fresh.{fresh-sound as fresh-is-sound}
 use Rattle.sound.specs.Sound.{Sound}
 use Rattle.bay.specs.Bay.{zeros, emptyBay, emptyParcel}
 use lib.ListN.{length}
@@ -147,5 +148,4 @@ fresh-typed = record { order = refl; processes = refl; structures = refl; rings 
 
 -- A fresh state is sound
 pub fresh-sound : SoundTables fresh
-unfolding soundB settledTested stillnessTested urgencyTested every orderTested listedTested runsTested asksTested placeTested fitsTested keptAs keptTested processTested valueTested emptyTested clearTested goodTested bayTested stillTested rankTested fresh numbered zerosFirst emptyBay emptyParcel zeros urgency
-fresh-sound = record { typed = fresh-typed; sound = sound-decided fresh fresh-typed .yes refl }
+fresh-sound = record { typed = fresh-typed; sound = fresh-is-sound }

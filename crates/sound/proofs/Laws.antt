@@ -6,13 +6,12 @@ use mathlib.Core.List.{List, [], _∷_}
 use mathlib.Core.Logic.{⊎-elim}
 use native.Mathlib.Omega.{arith}
 use native.Mathlib.Numerals.{add-one}
-use lib.Dec.{eqb, leb, ltb}
+use lib.Dec.{eqb, leb}
 use lib.ListN.{length, getD, set, take, drop, replicate, drop-of-length-le, length-replicate, getD-replicate, length-drop}
 use lib.Seq.{slice, slice-cons, drop-cons, length-take-le, take-all}
 use borrow.Author.Tests.{eq-eqb, ne-eqb, eqb-true, eqb-false, leb-true, leb-false, le-leb, lt-leb}
 use Rattle.basics.specs.Tests.{test, holds, fails}
-use Rattle.basics.specs.Lists.{getD-any}
-use Rattle.arrivals.specs.Order.{one, count, has, zerosFirst, keep, first}
+use Rattle.arrivals.specs.Order.{one, count, has, keep, first}
 use Rattle.arrivals.specs.Listed.{one-same}
 use Rattle.arrivals.specs.Views.{head-of}
 use Rattle.bay.specs.declared.Holding.{Holding}
@@ -35,7 +34,7 @@ use Rattle.bay.specs.Bay.{emptyBay}
 use Rattle.rings.specs.Serving.{asked, lengthsOf, lengthFor, getterGoes, putterGoes}
 use Rattle.rings.specs.Serving.{getterCan, putterCan}
 use Rattle.rings.specs.Changes.{length-of}
-use Rattle.sound.specs.Tested.{rankOf, rankTested, bayTested, restsTested, stillTested, listedTested, runsTested, placeTested, keptTested, fitsTested, processTested, every, allZero, allWithin, keptAs, clearTested, named, listingsOf, usersOf, headsOf, standsIn}
+use Rattle.sound.specs.Tested.{rankOf, rankTested, bayTested, restsTested, stillTested, listedTested, runsTested, placeTested, keptTested, fitsTested, processTested, every, allZero, keptAs, clearTested, named, listingsOf, usersOf, headsOf, standsIn}
 use Rattle.sound.specs.Sound.{bayOf, users, placeAt, kindAt, ringAt, parcelAt}
 use Rattle.structures.specs.Structures.{isIn}
 
@@ -312,9 +311,10 @@ rank-turn top ps i d h =
     let place : placeAt ps (i + 1) ≡ getD ps i d .place = ap (λ (y : Process). y .place) (next-entry ps i nobody d h) in
     rw (next-rank ps i d h, place)
 
-pub runner-rank : (t : Tables) (p r : ℕ) (q : Process) → r ≡ rankOf p (q .priority) → q ≡ processOf t p → r ≡ urgency (t .processes) p
-unfolding rankOf urgency processOf
-runner-rank t p r q e f = e ∙ rw f
+pub runner-rank : (ps : List Process) (p k r v : ℕ) (d : Process) → length ps ≡ 32 → k ≡ (p + 31) % 32 → v ≡ named 32 p (getD ps k d .priority) 0 → r ≡ rankOf p v → r ≡ urgency ps p
+unfolding rankOf urgency
+runner-rank ps p k r v d long at e f =
+    f ∙ rw (e, ← entry-named (λ (q : Process). q .priority) ps p k 32 nobody d long (λ z h. omega arith))
 
 -- The length of process p
 length-at : (t : Tables) (p : ℕ) → lengthFor (lengthsOf t) p ≡ asked (placeAt (t .processes) p)

@@ -1,18 +1,16 @@
 -- The test of soundness is passed exactly when the tables are sound.
-use Prim.Native.Nat.{ℕ, zero, suc, _+_, _-_, _≤_, _<_}
+use Prim.Native.Nat.{ℕ, suc, _≤_, _<_}
 use mathlib.Core.Path.{_≡_, refl, sym, ap, subst, _∙_}
-use mathlib.Core.Bool.{Bool, true, false, cond, not, _&&_, true≢false}
+use mathlib.Core.Bool.{true, false, true≢false}
 use mathlib.Core.List.{List, [], _∷_}
 use native.Mathlib.Omega.{arith}
 use lib.Dec.{eqb, leb}
 use lib.ListN.{length, getD}
-use borrow.Author.Tests.{eqb-true, eqb-false, eq-eqb, ne-eqb, leb-true, leb-false, le-leb}
+use borrow.Author.Tests.{eqb-true, eqb-false, ne-eqb, leb-true, leb-false, le-leb}
 use Rattle.basics.specs.Tests.{test, holds, fails}
 use Rattle.arrivals.specs.Order.{count, one, zerosFirst}
 use Rattle.arrivals.specs.Listed.{one-same}
 use Rattle.bay.specs.declared.Ring as bays
-use Rattle.bay.specs.declared.Parcel.{Parcel}
-use Rattle.bay.specs.declared.Holding.the-variants.{Nothing}
 use Rattle.bay.specs.Bay.{emptyBay, emptyParcel}
 use Rattle.tables.specs.declared.Tables.{Tables}
 use Rattle.tables.specs.declared.Process.{Process}
@@ -21,16 +19,16 @@ use Rattle.tables.specs.declared.Place.{Place}
 use Rattle.tables.specs.declared.Place.the-variants.{Nowhere, Running, Ready}
 use Rattle.tables.specs.declared.Kind.{Kind}
 use Rattle.tables.specs.declared.Kind.the-variants.{Free, Binary, Counting, Ring}
-use Rattle.tables.specs.Numbers.{spot, code}
+use Rattle.tables.specs.Numbers.{code}
 use Rattle.tables.specs.Access.{numbered, nobody, nothing}
 use Rattle.tables.specs.Laws.{numbered-zero, numbered-past, numbered-at}
 use Rattle.tables.specs.Lines.{urgency}
 use Rattle.structures.specs.Structures.{isIn}
 use Rattle.rings.specs.Serving.{getterCan, putterCan}
-use Rattle.sound.specs.Sound.{placeAt, kindAt, ringAt, parcelAt, bayOf, listings, users, Listed, Runs, Fits, Kept, none, ValueFits, BayFits, free, Settled, StillAt, Still, Urgent, Sound}
+use Rattle.sound.specs.Sound.{placeAt, kindAt, ringAt, parcelAt, listings, users, Listed, Runs, Fits, Kept, none, ValueFits, BayFits, free, Settled, StillAt, Still, Urgent, Sound}
 use Rattle.sound.specs.Tested.{every, allWithin, orderTested, fitsTested, processTested, valueTested, bayTested, stillTested, rankTested, settledTested, stillnessTested, urgencyTested, soundB}
-use Rattle.sound.specs.Deciding.{Decides, and-first, and-second, is-equal, is-most, is-set, is-not-set, is-true, both, same, each}
-use Rattle.sound.specs.Clauses.{running-decided, ready-decided, listed-decided, runs-decided, place-decided, kept-decided, value-decided, bay-decided}
+use Rattle.sound.specs.Deciding.{Decides, and-first, and-second, is-most, is-set, is-not-set, is-true, both, same, each}
+use Rattle.sound.specs.Clauses.{ready-decided, listed-decided, runs-decided, place-decided, kept-decided, value-decided, bay-decided}
 
 -- The lists have the lengths of the arrays
 pub record Typed (t : Tables) : Type 0 where
@@ -246,7 +244,7 @@ module _ (t : Tables) (typed : Typed t) where
 
   -- ---- urgent
 
-  pub urgent-decided : Decides (urgencyTested t) (Urgent t)
+  pub urgent-decided : Decides (urgencyTested (t .running) (t .processes)) (Urgent t)
   unfolding urgencyTested Urgent
   urgent-decided =
       same

@@ -159,12 +159,11 @@ settledTested t =
 unfoldable pub stillnessTested : Tables → Bool
 stillnessTested t = every 24 (λ n. stillTested n t (kindAt (t .structures) n))
 
-unfoldable pub urgencyTested : Tables → Bool
-urgencyTested t =
-    every 32 (λ p. rankTested (urgency (t .processes) (t .running)) (urgency (t .processes) p) (placeAt (t .processes) p))
+unfoldable pub urgencyTested : ℕ → List Process → Bool
+urgencyTested running processes = every 32 (λ p. rankTested (urgency processes running) (urgency processes p) (placeAt processes p))
 
 unfoldable pub soundB : Tables → Bool
-soundB t = settledTested t && (stillnessTested t && urgencyTested t)
+soundB t = settledTested t && (stillnessTested t && urgencyTested (t .running) (t .processes))
 
 -- ---- what the loops note down, by number
 

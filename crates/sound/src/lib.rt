@@ -44,7 +44,6 @@ ghost use Rattle.sound.specs.Tested.{
   bayTested,
   restsTested,
   rankTested,
-  settledTested,
   stillnessTested,
   urgencyTested,
   soundB,
@@ -454,28 +453,6 @@ fn bays_fit(structures: [Structure; 24], rings: [Ring; 8]) -> bool
     ok
 }
 
-// Settled: all but who is to be served, and who is to run.
-fn settled(t: Tables) -> bool
-    ensures { λ r. ⌜ r ≡ settledTested t ⌝ }
-{
-    let order = t.order;
-    if !order_fits(order) {
-        return false;
-    }
-    if 32 < t.running {
-        return false;
-    }
-    if !processes_fit(t) {
-        return false;
-    }
-    let structures = t.structures;
-    if !values_fit(structures) {
-        return false;
-    }
-    let rings = t.rings;
-    bays_fit(structures, rings)
-}
-
 // Could neither head of a structure's lines be served, if it is a ring?
 fn still_fits(
     kind: Kind,
@@ -545,16 +522,29 @@ fn rank_fits(top: u16, rank: u16, place: Place) -> bool
     rank <= top
 }
 
-// Nobody who is ready ranks higher than the runner.
-fn urgent(t: Tables) -> bool
-    ensures { λ r. ⌜ r ≡ urgencyTested t ⌝ }
+// The priority of process p, whose entry has this one.
+fn priority_named(p: u8, priority: u8) -> u8
+    ensures { λ r. ⌜ r ≡ named 32 p priority 0 ⌝ }
 {
-    let runner = tables::process_at(t, t.running);
-    let top = rank_of(t.running, runner.priority);
+    if p == 0 {
+        return 0;
+    }
+    if 32 < p {
+        return 0;
+    }
+    priority
+}
+
+// Nobody who is ready ranks higher than the runner.
+fn urgent(running: u8, processes: [Process; 32]) -> bool
+    ensures { λ r. ⌜ r ≡ urgencyTested running processes ⌝ }
+{
+    let runner = processes[tables::entry_of(running)];
+    let top = rank_of(running, priority_named(running, runner.priority));
     let mut ok = true;
     let mut i: usize = 0;
     while i < 32 {
-        let process = t.processes[i];
+        let process = processes[i];
         let place = process.place;
         let rank = process.priority as u16 + 1;
         ok = ok & rank_fits(top, rank, place);
@@ -563,15 +553,31 @@ fn urgent(t: Tables) -> bool
     ok
 }
 
-// Are the tables sound?
+// Are the tables sound: settled, still and urgent?
 pub fn sound(t: Tables) -> bool
     ensures { λ r. ⌜ r ≡ soundB t ⌝ }
 {
-    if !settled(t) {
+    let order = t.order;
+    if !order_fits(order) {
+        return false;
+    }
+    if 32 < t.running {
+        return false;
+    }
+    if !processes_fit(t) {
+        return false;
+    }
+    let structures = t.structures;
+    if !values_fit(structures) {
+        return false;
+    }
+    let rings = t.rings;
+    if !bays_fit(structures, rings) {
         return false;
     }
     if !still(t) {
         return false;
     }
-    urgent(t)
+    let processes = t.processes;
+    urgent(t.running, processes)
 }

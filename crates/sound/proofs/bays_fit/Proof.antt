@@ -1,26 +1,17 @@
+-- `sound::bays_fit` meets its contract: a turn tests one bay more, with its number of rings noted beforehand.
 use mathlib.Core.List.{List}
-use Rattle.bay.specs.declared.Ring.{Ring}
-use Prim.Native.Nat.{ℕ, _+_, _-_, _≤_, _<_}
-use mathlib.Core.Path.{_≡_, refl, sym, ap, _∙_}
-use mathlib.Core.Bool.{Bool, true, false, cond, _&&_}
-use mathlib.Core.Logic.{⊎-elim}
+use Prim.Native.Nat.{ℕ, _-_, _≤_}
+use mathlib.Core.Path.{_≡_, ap, _∙_}
 use native.Mathlib.Omega.{arith}
 use borrow.Author.Needs.{needs}
-use borrow.Author.Tests.{eq-eqb, ne-eqb, not-true, not-false}
-use lib.ListN.{length, getD, set, drop}
-use lib.Seq.{slice}
+use lib.ListN.{length, getD}
 use Rattle.basics.specs.Lists.{len-map}
 use Rattle.sound.specs.Sound as sound
-use Rattle.sound.specs.Sound.{kindAt, placeAt, ringAt, bayOf}
-use Rattle.sound.specs.Tested.{every, allZero, allWithin, valueTested, bayTested, orderTested, listingsOf, usersOf, headsOf}
+use Rattle.sound.specs.Sound.{ringAt}
+use Rattle.sound.specs.Tested.{every, bayTested}
 use Rattle.sound.proofs.Laws as laws
-use Rattle.bay.specs.Bay.{emptyBay}
 use Rattle.sound.proofs.bays_fit.Statement.{statement}
 use Rattle.sound.proofs.bays_fit.Tie as tie
-use Rattle.sound.proofs.bays_fit.Reads as reads
-use Rattle.sound.proofs.bays_fit.Lts as lts
-use Rattle.sound.proofs.bay_fits.Reads as bay-fits-reads
-use Rattle.sound.proofs.users_of.Reads as users-of-reads
 
 abbrev Inv-loop : tie.InvT-loop
 Inv-loop rings users ok₀ i₀ ok i = (i ≤ 8) × (ok ≡ every i (λ b. bayTested (getD users b 0) (ringAt rings b)))
@@ -28,43 +19,33 @@ Inv-loop rings users ok₀ i₀ ok i = (i ≤ 8) × (ok ≡ every i (λ b. bayTe
 abbrev μ-loop : tie.MeasureT-loop
 μ-loop rings users ok₀ i₀ ok i = 8 - i
 
--- src/lib.rt:421:17
 users-of-requires : tie.Need-users-of-requires Inv-loop μ-loop
 users-of-requires c κs = search needs
 
--- src/lib.rt:424:5
 loop-holds : tie.Need-loop-holds Inv-loop μ-loop
 loop-holds c = (search needs, laws.every-none _)
 
--- src/lib.rt:425:20
 mul-ring : tie.Need-mul-ring Inv-loop μ-loop
 mul-ring c = search needs
 
--- src/lib.rt:425:20
 array-copy-out-ring : tie.Need-array-copy-out-ring Inv-loop μ-loop
 array-copy-out-ring c = search needs
 
--- src/lib.rt:426:34
 add-bay-fits : tie.Need-add-bay-fits Inv-loop μ-loop
 add-bay-fits c = search needs
 
--- src/lib.rt:426:28
 array-read-bay-fits : tie.Need-array-read-bay-fits Inv-loop μ-loop
 array-read-bay-fits c = search needs
 
--- src/lib.rt:426:19
 bay-fits-requires : tie.Need-bay-fits-requires Inv-loop μ-loop
 bay-fits-requires c κs = search needs
 
--- src/lib.rt:427:9
 add-i : tie.Need-add-i Inv-loop μ-loop
 add-i c = search needs
 
--- src/lib.rt:424:5
 loop-less : tie.Need-loop-less Inv-loop μ-loop
 loop-less c = search needs
 
--- src/lib.rt:424:5
 loop-again : tie.Need-loop-again Inv-loop μ-loop
 loop-again c =
     let l = c .before .before .before .loop in
@@ -72,7 +53,6 @@ loop-again c =
     let long : length rings ≡ 8 = search (len-map, needs) in
     (search needs, laws.turn _ (l .i) (l .ok) (c .bay-fits .result) (l .inv .1) (c .bay-fits .ensures ∙ laws.bay-turn _ rings (l .i) _ (omega arith)))
 
--- src/lib.rt:418:1
 returns : tie.Need-returns Inv-loop μ-loop
 returns c =
     let l = c .before .loop in

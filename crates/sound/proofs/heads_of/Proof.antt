@@ -1,25 +1,15 @@
+-- `sound::heads_of` meets its contract: from the newest back, whoever stands in a line is noted as its head; the oldest is noted last.
 use Rattle.tables.specs.Numbers.{spot}
-use Prim.Native.Nat.{ℕ, _+_, _-_, _≤_, _<_}
-use mathlib.Core.Path.{_≡_, refl, sym, ap, _∙_}
-use mathlib.Core.Bool.{Bool, true, false, cond, _&&_}
-use mathlib.Core.Logic.{⊎-elim}
+use Prim.Native.Nat.{_-_, _≤_, _<_}
+use mathlib.Core.Path.{_≡_, sym, ap, _∙_}
 use native.Mathlib.Omega.{arith}
 use borrow.Author.Needs.{needs}
-use borrow.Author.Tests.{eq-eqb, ne-eqb, not-true, not-false}
-use lib.ListN.{length, getD, set, drop}
-use lib.Seq.{slice}
+use lib.ListN.{length, getD, drop}
 use Rattle.basics.specs.Lists.{len-map}
-use Rattle.sound.specs.Sound as sound
-use Rattle.sound.specs.Sound.{kindAt, placeAt, ringAt, bayOf}
-use Rattle.sound.specs.Tested.{every, allZero, allWithin, valueTested, bayTested, orderTested, listingsOf, usersOf, headsOf}
+use Rattle.sound.specs.Tested.{headsOf}
 use Rattle.sound.proofs.Laws as laws
 use Rattle.sound.proofs.heads_of.Statement.{statement}
 use Rattle.sound.proofs.heads_of.Tie as tie
-use Rattle.sound.proofs.heads_of.Reads as reads
-use Rattle.sound.proofs.heads_of.Lts as lts
-use Rattle.sound.proofs.has_code.Reads as has-code-reads
-use Rattle.tables.proofs.entry_of.Reads as entry-of-reads
-use Rattle.tables.proofs.spot_of.Reads as spot-of-reads
 
 abbrev Inv-loop : tie.InvT-loop
 Inv-loop c processes order heads₀ i₀ heads i = (1 ≤ c) × (i ≤ 32) × (heads ≡ headsOf c processes (drop i order))
@@ -27,54 +17,42 @@ Inv-loop c processes order heads₀ i₀ heads i = (1 ≤ c) × (i ≤ 32) × (h
 abbrev μ-loop : tie.MeasureT-loop
 μ-loop c processes order heads₀ i₀ heads i = i
 
--- src/lib.rt:136:5
 loop-holds : tie.Need-loop-holds Inv-loop μ-loop
 loop-holds c =
     let order = c .args .t3 in
     let long : length order ≡ 32 = search (len-map, needs) in
     (c .pre, search needs, laws.no-heads (c .args .c) (c .args .t2) ∙ sym (ap (headsOf (c .args .c) (c .args .t2)) (laws.behind-all order 32 long)))
 
--- src/lib.rt:137:9
 sub-i : tie.Need-sub-i Inv-loop μ-loop
 sub-i c = search needs
 
--- src/lib.rt:138:17
 array-read-x : tie.Need-array-read-x Inv-loop μ-loop
 array-read-x c = search needs
 
--- src/lib.rt:139:31
 entry-of-requires : tie.Need-entry-of-requires Inv-loop μ-loop
 entry-of-requires c κs = search needs
 
--- src/lib.rt:139:21
 mul-entry : tie.Need-mul-entry Inv-loop μ-loop
 mul-entry c = search needs
 
--- src/lib.rt:139:21
 array-copy-out-entry : tie.Need-array-copy-out-entry Inv-loop μ-loop
 array-copy-out-entry c = search needs
 
--- src/lib.rt:141:12
 has-code-requires : tie.Need-has-code-requires Inv-loop μ-loop
 has-code-requires c κs = search needs
 
--- src/lib.rt:142:21
 spot-of-requires : tie.Need-spot-of-requires Inv-loop μ-loop
 spot-of-requires c κs = search needs
 
--- src/lib.rt:142:21
 cast-n : tie.Need-cast-n Inv-loop μ-loop
 cast-n c = search needs
 
--- src/lib.rt:143:13
 array-write-heads : tie.Need-array-write-heads Inv-loop μ-loop
 array-write-heads c = search needs
 
--- src/lib.rt:136:5
 loop-less : tie.Need-loop-less Inv-loop μ-loop
 loop-less c = search needs
 
--- src/lib.rt:136:5
 loop-again : tie.Need-loop-again Inv-loop μ-loop
 loop-again c =
     let l = c .before .before .before .before .before .before .loop in
@@ -93,11 +71,9 @@ loop-again c =
           (c .spot-of .ensures ∙ sym (ap spot there)) small),
     )
 
--- src/lib.rt:136:5
 loop-less-2 : tie.Need-loop-less-2 Inv-loop μ-loop
 loop-less-2 c = search needs
 
--- src/lib.rt:136:5
 loop-again-2 : tie.Need-loop-again-2 Inv-loop μ-loop
 loop-again-2 c =
     let l = c .before .before .before .before .before .loop in
@@ -113,7 +89,6 @@ loop-again-2 c =
           (laws.code-seen (a .c) (a .t2) x (entry .result) (has .result) _ (l .inv .0) processes (entry .ensures) (has .ensures) ∙ c .if1 .left),
     )
 
--- src/lib.rt:130:1
 returns : tie.Need-returns Inv-loop μ-loop
 returns c =
     let l = c .before .loop in

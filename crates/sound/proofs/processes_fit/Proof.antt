@@ -1,36 +1,17 @@
+-- `sound::processes_fit` meets its contract: a turn tests one process more.
 use mathlib.Core.List.{List}
 use Rattle.tables.specs.Access.{nobody}
 use Rattle.bay.specs.Bay.{emptyParcel}
-use Prim.Native.Nat.{ℕ, _+_, _-_, _≤_, _<_}
-use mathlib.Core.Path.{_≡_, refl, sym, ap, _∙_}
-use mathlib.Core.Bool.{Bool, true, false, cond, _&&_}
-use mathlib.Core.Logic.{⊎-elim}
+use Prim.Native.Nat.{ℕ, _+_, _-_, _≤_}
+use mathlib.Core.Path.{_≡_, refl, ap, _∙_}
 use native.Mathlib.Omega.{arith}
 use borrow.Author.Needs.{needs}
-use borrow.Author.Tests.{eq-eqb, ne-eqb, not-true, not-false}
-use lib.ListN.{length, getD, set, drop}
-use lib.Seq.{slice}
+use lib.ListN.{length, getD}
 use Rattle.basics.specs.Lists.{len-map}
-use Rattle.sound.specs.Sound as sound
-use Rattle.sound.specs.Sound.{kindAt, placeAt, ringAt, bayOf}
-use Rattle.sound.specs.Tested.{every, allZero, allWithin, valueTested, bayTested, orderTested, listingsOf, usersOf, headsOf}
+use Rattle.sound.specs.Tested.{every, listingsOf, processTested}
 use Rattle.sound.proofs.Laws as laws
-use Rattle.sound.specs.Tested.{processTested}
 use Rattle.sound.proofs.processes_fit.Statement.{statement}
 use Rattle.sound.proofs.processes_fit.Tie as tie
-use Rattle.sound.proofs.processes_fit.Reads as reads
-use Rattle.sound.proofs.processes_fit.Lts as lts
-use Rattle.sound.proofs.amount_named.Reads as amount-named-reads
-use Rattle.sound.proofs.bay_entry.Reads as bay-entry-reads
-use Rattle.sound.proofs.bay_of.Reads as bay-of-reads
-use Rattle.sound.proofs.kind_named.Reads as kind-named-reads
-use Rattle.sound.proofs.listed_fits.Reads as listed-fits-reads
-use Rattle.sound.proofs.listings_of.Reads as listings-of-reads
-use Rattle.sound.proofs.parcel_fits.Reads as parcel-fits-reads
-use Rattle.sound.proofs.place_fits.Reads as place-fits-reads
-use Rattle.sound.proofs.runs_fits.Reads as runs-fits-reads
-use Rattle.sound.proofs.structure_entry.Reads as structure-entry-reads
-use Rattle.tables.proofs.spot_of.Reads as spot-of-reads
 
 abbrev Inv-loop : tie.InvT-loop
 Inv-loop t times ok₀ i₀ ok i = (i ≤ 32) × (times ≡ listingsOf (t .order)) × (ok ≡ every i (processTested t))
@@ -38,111 +19,84 @@ Inv-loop t times ok₀ i₀ ok i = (i ≤ 32) × (times ≡ listingsOf (t .order
 abbrev μ-loop : tie.MeasureT-loop
 μ-loop t times ok₀ i₀ ok i = 32 - i
 
--- src/lib.rt:322:17
 listings-of-requires : tie.Need-listings-of-requires Inv-loop μ-loop
 listings-of-requires c κs = search needs
 
--- src/lib.rt:325:5
 loop-holds : tie.Need-loop-holds Inv-loop μ-loop
 loop-holds c = (search needs, c .listings-of .ensures, laws.every-none _)
 
--- src/lib.rt:326:23
 mul-process : tie.Need-mul-process Inv-loop μ-loop
 mul-process c = search needs
 
--- src/lib.rt:326:23
 element-copy-out-process : tie.Need-element-copy-out-process Inv-loop μ-loop
 element-copy-out-process c = search needs
 
--- src/lib.rt:327:22
 mul-parcel : tie.Need-mul-parcel Inv-loop μ-loop
 mul-parcel c = search needs
 
--- src/lib.rt:327:22
 element-copy-out-parcel : tie.Need-element-copy-out-parcel Inv-loop μ-loop
 element-copy-out-parcel c = search needs
 
--- src/lib.rt:329:13
 spot-of-requires : tie.Need-spot-of-requires Inv-loop μ-loop
 spot-of-requires c κs = search needs
 
--- src/lib.rt:330:38
 structure-entry-requires : tie.Need-structure-entry-requires Inv-loop μ-loop
 structure-entry-requires c κs = search needs
 
--- src/lib.rt:330:25
 mul-structure : tie.Need-mul-structure Inv-loop μ-loop
 mul-structure c = search needs
 
--- src/lib.rt:330:25
 element-copy-out-structure : tie.Need-element-copy-out-structure Inv-loop μ-loop
 element-copy-out-structure c = search needs
 
--- src/lib.rt:332:13
 kind-named-requires : tie.Need-kind-named-requires Inv-loop μ-loop
 kind-named-requires c κs = search needs
 
--- src/lib.rt:333:13
 bay-of-requires : tie.Need-bay-of-requires Inv-loop μ-loop
 bay-of-requires c κs = search needs
 
--- src/lib.rt:334:28
 bay-entry-requires : tie.Need-bay-entry-requires Inv-loop μ-loop
 bay-entry-requires c κs = search needs
 
--- src/lib.rt:334:20
 mul-ring : tie.Need-mul-ring Inv-loop μ-loop
 mul-ring c = search needs
 
--- src/lib.rt:334:20
 element-copy-out-ring : tie.Need-element-copy-out-ring Inv-loop μ-loop
 element-copy-out-ring c = search needs
 
--- src/lib.rt:335:13
 amount-named-requires : tie.Need-amount-named-requires Inv-loop μ-loop
 amount-named-requires c κs = search needs
 
--- src/lib.rt:336:40
 add-listed-fits : tie.Need-add-listed-fits Inv-loop μ-loop
 add-listed-fits c = search needs
 
--- src/lib.rt:336:34
 array-read-listed-fits : tie.Need-array-read-listed-fits Inv-loop μ-loop
 array-read-listed-fits c = search needs
 
--- src/lib.rt:336:13
 listed-fits-requires : tie.Need-listed-fits-requires Inv-loop μ-loop
 listed-fits-requires c κs = search needs
 
--- src/lib.rt:337:49
 add-runs-fits : tie.Need-add-runs-fits Inv-loop μ-loop
 add-runs-fits c = search needs
 
--- src/lib.rt:337:48
 cast-runs-fits : tie.Need-cast-runs-fits Inv-loop μ-loop
 cast-runs-fits c = search needs
 
--- src/lib.rt:337:13
 runs-fits-requires : tie.Need-runs-fits-requires Inv-loop μ-loop
 runs-fits-requires c κs = search needs
 
--- src/lib.rt:339:13
 place-fits-requires : tie.Need-place-fits-requires Inv-loop μ-loop
 place-fits-requires c κs = search needs
 
--- src/lib.rt:340:13
 parcel-fits-requires : tie.Need-parcel-fits-requires Inv-loop μ-loop
 parcel-fits-requires c κs = search needs
 
--- src/lib.rt:342:9
 add-i : tie.Need-add-i Inv-loop μ-loop
 add-i c = search needs
 
--- src/lib.rt:325:5
 loop-less : tie.Need-loop-less Inv-loop μ-loop
 loop-less c = search needs
 
--- src/lib.rt:325:5
 loop-again : tie.Need-loop-again Inv-loop μ-loop
 loop-again c =
     let t = c .before .before .before .before .before .before .before .before .before .before .before .before .before .before .before .before .before .before .args .t1 in
@@ -164,7 +118,6 @@ loop-again c =
           (c .before .before .before .listed-fits .ensures) (c .before .before .runs-fits .ensures) (c .before .place-fits .ensures) (c .parcel-fits .ensures)),
     )
 
--- src/lib.rt:318:1
 returns : tie.Need-returns Inv-loop μ-loop
 returns c =
     let l = c .before .loop in

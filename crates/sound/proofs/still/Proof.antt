@@ -1,33 +1,19 @@
+-- `sound::still` meets its contract: a turn tests one structure more, with its heads noted beforehand.
 use mathlib.Core.List.{List}
 use Rattle.tables.specs.declared.Structure.{Structure}
 use Rattle.tables.specs.Access.{nothing}
 use Rattle.rings.specs.Serving.{asked}
-use Prim.Native.Nat.{ℕ, _+_, _-_, _≤_, _<_}
-use mathlib.Core.Path.{_≡_, refl, sym, ap, _∙_}
-use mathlib.Core.Bool.{Bool, true, false, cond, _&&_}
-use mathlib.Core.Logic.{⊎-elim}
+use Prim.Native.Nat.{ℕ, _+_, _-_, _≤_}
+use mathlib.Core.Path.{_≡_, sym, ap, _∙_}
 use native.Mathlib.Omega.{arith}
 use borrow.Author.Needs.{needs}
-use borrow.Author.Tests.{eq-eqb, ne-eqb, not-true, not-false}
-use lib.ListN.{length, getD, set, drop}
-use lib.Seq.{slice}
+use lib.ListN.{length, getD}
 use Rattle.basics.specs.Lists.{len-map}
-use Rattle.sound.specs.Sound as sound
-use Rattle.sound.specs.Sound.{kindAt, placeAt, ringAt, bayOf}
-use Rattle.sound.specs.Tested.{every, allZero, allWithin, valueTested, bayTested, orderTested, listingsOf, usersOf, headsOf}
+use Rattle.sound.specs.Sound.{kindAt}
+use Rattle.sound.specs.Tested.{every, headsOf, stillTested, stillnessTested}
 use Rattle.sound.proofs.Laws as laws
-use Rattle.sound.specs.Tested.{stillTested, stillnessTested}
 use Rattle.sound.proofs.still.Statement.{statement}
 use Rattle.sound.proofs.still.Tie as tie
-use Rattle.sound.proofs.still.Reads as reads
-use Rattle.sound.proofs.still.Lts as lts
-use Rattle.rings.proofs.asked_in.Reads as asked-in-reads
-use Rattle.sound.proofs.amount_named.Reads as amount-named-reads
-use Rattle.sound.proofs.bay_entry.Reads as bay-entry-reads
-use Rattle.sound.proofs.bay_of.Reads as bay-of-reads
-use Rattle.sound.proofs.heads_of.Reads as heads-of-reads
-use Rattle.sound.proofs.still_fits.Reads as still-fits-reads
-use Rattle.tables.proofs.entry_of.Reads as entry-of-reads
 
 abbrev Inv-loop : tie.InvT-loop
 Inv-loop t getters putters ok₀ i₀ ok i = (i ≤ 24) × (getters ≡ headsOf 5 (t .processes) (t .order)) × (putters ≡ headsOf 6 (t .processes) (t .order)) × (ok ≡ every i (λ n. stillTested n t (kindAt (t .structures) n)))
@@ -35,111 +21,84 @@ Inv-loop t getters putters ok₀ i₀ ok i = (i ≤ 24) × (getters ≡ headsOf 
 abbrev μ-loop : tie.MeasureT-loop
 μ-loop t getters putters ok₀ i₀ ok i = 24 - i
 
--- src/lib.rt:470:19
 heads-of-requires : tie.Need-heads-of-requires Inv-loop μ-loop
 heads-of-requires c κs = search needs
 
--- src/lib.rt:471:19
 heads-of-requires-2 : tie.Need-heads-of-requires-2 Inv-loop μ-loop
 heads-of-requires-2 c κs = search needs
 
--- src/lib.rt:474:5
 loop-holds : tie.Need-loop-holds Inv-loop μ-loop
 loop-holds c = (search needs, c .before .heads-of .ensures, c .heads-of2 .ensures, laws.every-none _)
 
--- src/lib.rt:475:25
 mul-structure : tie.Need-mul-structure Inv-loop μ-loop
 mul-structure c = search needs
 
--- src/lib.rt:475:25
 element-copy-out-structure : tie.Need-element-copy-out-structure Inv-loop μ-loop
 element-copy-out-structure c = search needs
 
--- src/lib.rt:477:13
 bay-of-requires : tie.Need-bay-of-requires Inv-loop μ-loop
 bay-of-requires c κs = search needs
 
--- src/lib.rt:478:28
 bay-entry-requires : tie.Need-bay-entry-requires Inv-loop μ-loop
 bay-entry-requires c κs = search needs
 
--- src/lib.rt:478:20
 mul-ring : tie.Need-mul-ring Inv-loop μ-loop
 mul-ring c = search needs
 
--- src/lib.rt:478:20
 element-copy-out-ring : tie.Need-element-copy-out-ring Inv-loop μ-loop
 element-copy-out-ring c = search needs
 
--- src/lib.rt:479:13
 amount-named-requires : tie.Need-amount-named-requires Inv-loop μ-loop
 amount-named-requires c κs = search needs
 
--- src/lib.rt:480:13
 amount-named-requires-2 : tie.Need-amount-named-requires-2 Inv-loop μ-loop
 amount-named-requires-2 c κs = search needs
 
--- src/lib.rt:481:30
 add-getter : tie.Need-add-getter Inv-loop μ-loop
 add-getter c = search needs
 
--- src/lib.rt:481:22
 array-read-getter : tie.Need-array-read-getter Inv-loop μ-loop
 array-read-getter c = search needs
 
--- src/lib.rt:482:30
 add-putter : tie.Need-add-putter Inv-loop μ-loop
 add-putter c = search needs
 
--- src/lib.rt:482:22
 array-read-putter : tie.Need-array-read-putter Inv-loop μ-loop
 array-read-putter c = search needs
 
--- src/lib.rt:483:33
 entry-of-requires : tie.Need-entry-of-requires Inv-loop μ-loop
 entry-of-requires c κs = search needs
 
--- src/lib.rt:483:21
 mul-first : tie.Need-mul-first Inv-loop μ-loop
 mul-first c = search needs
 
--- src/lib.rt:483:21
 element-copy-out-first : tie.Need-element-copy-out-first Inv-loop μ-loop
 element-copy-out-first c = search needs
 
--- src/lib.rt:484:34
 entry-of-requires-2 : tie.Need-entry-of-requires-2 Inv-loop μ-loop
 entry-of-requires-2 c κs = search needs
 
--- src/lib.rt:484:22
 mul-second : tie.Need-mul-second Inv-loop μ-loop
 mul-second c = search needs
 
--- src/lib.rt:484:22
 element-copy-out-second : tie.Need-element-copy-out-second Inv-loop μ-loop
 element-copy-out-second c = search needs
 
--- src/lib.rt:487:13
 asked-in-requires : tie.Need-asked-in-requires Inv-loop μ-loop
 asked-in-requires c κs = search needs
 
--- src/lib.rt:488:13
 asked-in-requires-2 : tie.Need-asked-in-requires-2 Inv-loop μ-loop
 asked-in-requires-2 c κs = search needs
 
--- src/lib.rt:489:19
 still-fits-requires : tie.Need-still-fits-requires Inv-loop μ-loop
 still-fits-requires c κs = search needs
 
--- src/lib.rt:490:9
 add-i : tie.Need-add-i Inv-loop μ-loop
 add-i c = search needs
 
--- src/lib.rt:474:5
 loop-less : tie.Need-loop-less Inv-loop μ-loop
 loop-less c = search needs
 
--- src/lib.rt:474:5
 loop-again : tie.Need-loop-again Inv-loop μ-loop
 loop-again c =
     let t = c .before .before .before .before .before .before .before .before .before .before .before .before .before .before .before .before .before .before .before .args .t1 in
@@ -165,7 +124,6 @@ loop-again c =
           ∙ ap (λ (s : Structure). stillTested (l .i + 1) t (s .kind)) (sym (laws.next-entry (t .structures) (l .i) nothing _ (omega arith)))),
     )
 
--- src/lib.rt:465:1
 returns : tie.Need-returns Inv-loop μ-loop
 unfolding stillnessTested
 returns c =
