@@ -14,3 +14,4 @@ pub mod KeptRingsCalls
 pub mod KeptRingsAccepted
 pub mod Kept
 pub mod Run
+pub mod Turns
