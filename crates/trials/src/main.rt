@@ -23,14 +23,7 @@ fn data_of(call: u8, l: u8) -> [u8; 64] {
     bytes
 }
 
-// A number and what follows it.
-fn print(x: u64, end: u8) {
-    io::print_decimal(STDOUT_FILENO, x);
-    let tail = [end; 1];
-    io::write_all(STDOUT_FILENO, &tail);
-}
-
-// One request: its reply is printed.
+// One request: its line is printed.
 fn ask(t: Tables, call: u8, caller: u8, n: u8, l: u8, m: u32) -> Tables {
     let r = Record {
         what: call,
@@ -41,13 +34,10 @@ fn ask(t: Tables, call: u8, caller: u8, n: u8, l: u8, m: u32) -> Tables {
         bytes: data_of(call, l),
     };
     let after = steps::stepped(t, r);
-    let reply = after.reply;
-    print(call as u64, b' ');
-    print(reply.what as u64, b' ');
-    print(reply.who as u64, b' ');
-    print(reply.n as u64, b' ');
-    print(reply.l as u64, b' ');
-    print(reply.m as u64, b'\n');
+    let line = listing::line_of(call, after.reply);
+    let text = line.bytes;
+    let end = line.length;
+    io::write_all(STDOUT_FILENO, &text[..end]);
     after.tables
 }
 
