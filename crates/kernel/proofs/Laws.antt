@@ -59,11 +59,11 @@ small No = omega arith
 small Waits = omega arith
 
 -- The step of a refused request, and the code of one that is done
-refused-step : (t : Tables) (r : Record) → (refusal t r ≡ 0 → ⊥) → stepped t r .reply ≡ refusalReply (refusal t r) (t .running)
+pub refused-step : (t : Tables) (r : Record) → (refusal t r ≡ 0 → ⊥) → stepped t r .reply ≡ refusalReply (refusal t r) (t .running)
 unfolding stepped steppedBy refusedStep
 refused-step t r h = elim (test (eqb (refusal t r) 0)) [ holds e ↦ absurd (h (eqb-true _ 0 e)) | fails e ↦ rw e ]
 
-done-code : (t : Tables) (r : Record) → refusal t r ≡ 0 → stepped t r .reply .what < 3
+pub done-code : (t : Tables) (r : Record) → refusal t r ≡ 0 → stepped t r .reply .what < 3
 unfolding stepped steppedBy replied repliedBy
 done-code t r h = rw (eq-eqb (refusal t r) 0 h) (small (deedDone (rowOf (r .what) .deed) r t .answer .outcome))
 
@@ -80,6 +80,17 @@ was-done t r h =
     ]
 
 -- ---- the buffers
+
+-- Tables whose fields are in range have lists of the arrays' lengths
+pub lists-long : (t : Tables) → Typed t → decided.Typed t
+lists-long t typed =
+    record {
+      order = typed .order-long;
+      processes = typed .processes-long;
+      structures = typed .structures-long;
+      rings = typed .rings-long;
+      parcels = typed .parcels-long;
+    }
 
 written : (p : List ℕ) (r : Record) → length p ≡ recordLength → writtenTo p r ≡ bytesOf r
 unfolding writtenTo
@@ -113,14 +124,7 @@ module _ (s q p : List ℕ) where
       typed = rw reads (decode-typed s bytes)
 
       lists : decided.Typed t
-      lists =
-          record {
-            order = typed .order-long;
-            processes = typed .processes-long;
-            structures = typed .structures-long;
-            rings = typed .rings-long;
-            parcels = typed .parcels-long;
-          }
+      lists = lists-long t typed
 
       -- 40 where they are a state that is not sound
       pub no-sound : {r : Record} {p′ : List ℕ} → not d ≡ true → r ≡ refusalReply 40 0 → p′ ≡ writtenTo p r → Called s q p 40 s p′

@@ -13,5 +13,8 @@ pub mod KeptRingsTyped
 pub mod KeptRingsCalls
 pub mod KeptRingsAccepted
 pub mod Kept
+pub mod KeptSmall
+pub mod KeptTyped
 pub mod Run
 pub mod Turns
+pub mod Bytes
