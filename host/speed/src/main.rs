@@ -8,8 +8,9 @@ use std::time::Instant;
 use Caller::{Board, RunningProcess};
 use Request::*;
 
-const ROUNDS: usize = 9;
-const CALLS: usize = 20_000;
+/// Many short rounds, of which the best counts: other work on the machine then spoils some and not all.
+const ROUNDS: usize = 150;
+const CALLS: usize = 500;
 const BYTES: [u8; 64] = [7; 64];
 
 /// One panel twice: the kernel's bytes and the model's queues; the semaphores and the ring that the cases use.
@@ -251,6 +252,18 @@ fn measure_many_served() -> (f64, f64) {
     best
 }
 
+/// What looking at every byte of a state takes, once and without any use: nothing that tests a state is below it.
+fn measure_glance() -> f64 {
+    let state = vec![0u8; brombeertor::state_length()];
+    let record = [[0; RECORD]; 2];
+    let glance = |_: &Record| {
+        let state = black_box(&state);
+        black_box(state.iter().fold(0, |seen, byte| seen | byte));
+    };
+    let rounds = (0..ROUNDS).map(|_| timed(&record, glance));
+    rounds.fold(f64::MAX, f64::min)
+}
+
 /// "kernel ns | model ns | ratio".
 fn cells((kernel, model): (f64, f64)) -> String {
     format!("{kernel:.0} | {model:.0} | {:.0}", kernel / model)
@@ -258,8 +271,9 @@ fn cells((kernel, model): (f64, f64)) -> String {
 
 fn print_calls() {
     let mut panels = [Panel::empty(), Panel::full(), Panel::busy()];
-    println!("Nanoseconds a call: kernel | model without any check | ratio\n");
-    println!("| call | empty | | | full | | | busy | | |");
+    println!("Nanoseconds a call\n");
+    let columns = ["empty", "full", "busy"].map(|panel| format!("{panel}: kernel | model | ratio"));
+    println!("| call | {} |", columns.join(" | "));
     println!("|---|---|---|---|---|---|---|---|---|---|");
     for row in 0..cases(&panels[0]).len() {
         let name = cases(&panels[0])[row].0;
@@ -276,6 +290,10 @@ fn print_calls() {
     println!(
         "| put that serves 31 | | | | {} | | | |\n",
         cells(measure_many_served())
+    );
+    println!(
+        "Looking at every byte of a state once: {:.0} ns\n",
+        measure_glance()
     );
 }
 
