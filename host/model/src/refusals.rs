@@ -1,6 +1,6 @@
 //! Codes 41 to 53: when each applies, in the paper's words.
 
-use crate::{call, Model, Request, Structure};
+use crate::{Model, Request, Structure};
 use crate::{BAYS, DATA, LARGEST_COUNT, LARGEST_RING, LONGEST_SLEEP, PROCESSES, STRUCTURES};
 
 /// Which callers a call is allowed: (board, process).
@@ -31,20 +31,20 @@ fn transfers(call: u8) -> bool {
 fn bad_field(r: &Request) -> bool {
     let n_good = names_process(r.call) || names_structure(r.call) || r.n == 0;
     let l_good = match r.call {
-        call::CREATE_PROCESS | call::CHANGE_PRIORITY => true,
-        call::CREATE_STRUCTURE => matches!(r.l, 1..=3),
+        2 | 6 => true,
+        10 => matches!(r.l, 1..=3),
         _ if transfers(r.call) => (1..=DATA).contains(&(r.l as usize)),
         _ => r.l == 0,
     };
     let m_good = match (r.call, r.l) {
-        (call::SLEEP, _) => r.m <= LONGEST_SLEEP,
-        (call::CREATE_STRUCTURE, 1) => r.m <= 1,
-        (call::CREATE_STRUCTURE, 2) => r.m <= u32::from(LARGEST_COUNT),
-        (call::CREATE_STRUCTURE, 3) => (1..=LARGEST_RING).contains(&(r.m as usize)),
+        (9, _) => r.m <= LONGEST_SLEEP,
+        (10, 1) => r.m <= 1,
+        (10, 2) => r.m <= u32::from(LARGEST_COUNT),
+        (10, 3) => (1..=LARGEST_RING).contains(&(r.m as usize)),
         _ => r.m == 0,
     };
     let brought = match r.call {
-        call::PUT | call::CONDITIONAL_PUT => DATA.min(r.l as usize),
+        18 | 19 => DATA.min(r.l as usize),
         _ => 0,
     };
     let data_good = r.data[brought..].iter().all(|&byte| byte == 0);
@@ -77,8 +77,8 @@ impl Model {
             },
             46 => names_process(r.call) && process.is_none(),
             47 => process.is_some_and(|process| match r.call {
-                call::SUSPEND => process.suspended,
-                call::RESUME => !process.suspended,
+                4 => process.suspended,
+                5 => !process.suspended,
                 _ => false,
             }),
             48 => transfers(r.call) && r.caller == 1 && self.uncollected(),
@@ -87,17 +87,15 @@ impl Model {
                 _ => false,
             },
             50 => match structure {
-                Some(Structure::Semaphore(semaphore)) => {
-                    r.call == call::SIGNAL && semaphore.value == LARGEST_COUNT
-                }
+                Some(Structure::Semaphore(semaphore)) => r.call == 13 && semaphore.value == LARGEST_COUNT,
                 _ => false,
             },
-            51 => r.call == call::DELETE_STRUCTURE && structure.is_some_and(|s| s.in_lines() > 0),
-            52 => r.call == call::CREATE_PROCESS && self.live_processes().len() == PROCESSES.into(),
+            51 => r.call == 11 && structure.is_some_and(|s| s.in_lines() > 0),
+            52 => r.call == 2 && self.live_processes().len() == PROCESSES.into(),
             53 => {
                 let no_number = self.live_structures().len() == STRUCTURES.into();
                 let no_bay = r.l == 3 && self.rings().count() == BAYS.into();
-                r.call == call::CREATE_STRUCTURE && (no_number || no_bay)
+                r.call == 10 && (no_number || no_bay)
             }
             _ => false,
         }
@@ -105,7 +103,6 @@ impl Model {
 
     /// Does the caller's parcel hold uncollected bytes?
     fn uncollected(&self) -> bool {
-        self.live_process(self.running)
-            .is_some_and(|caller| !caller.parcel.is_empty())
+        self.live_process(self.running).is_some_and(|caller| !caller.parcel.is_empty())
     }
 }

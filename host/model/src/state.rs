@@ -79,8 +79,7 @@ impl Model {
         entry[2] = process.place.number();
         entry[3] = process.place.structure();
         entry[4..].copy_from_slice(&amount.to_le_bytes());
-        bytes[parcel_numbers(p)]
-            .copy_from_slice(&[u8::from(!parcel.is_empty()), parcel.len() as u8]);
+        bytes[parcel_numbers(p)].copy_from_slice(&[u8::from(!parcel.is_empty()), parcel.len() as u8]);
         bytes[parcel_bytes(p)][..parcel.len()].copy_from_slice(parcel);
     }
 
@@ -185,11 +184,9 @@ fn read_structure(n: u8, bytes: &[u8]) -> Option<Option<Structure>> {
     let value = u16_at(entry, 1);
     match entry[0] {
         0 => Some(None),
-        kind @ 1..=2 => Some(Some(Structure::Semaphore(Semaphore {
-            counting: kind == 2,
-            value,
-            line: VecDeque::new(),
-        }))),
+        kind @ 1..=2 => {
+            Some(Some(Structure::Semaphore(Semaphore { counting: kind == 2, value, line: VecDeque::new() })))
+        }
         3 => Some(Some(Structure::Ring(read_ring(value, bytes)?))),
         _ => None,
     }
@@ -207,13 +204,7 @@ fn read_ring(bay: u16, bytes: &[u8]) -> Option<Ring> {
         return None;
     }
     let byte = |i| bytes[bay_bytes(bay)][(start + i) % size];
-    Some(Ring {
-        bay,
-        size,
-        start,
-        held: (0..held).map(byte).collect(),
-        ..Ring::default()
-    })
+    Some(Ring { bay, size, start, held: (0..held).map(byte).collect(), ..Ring::default() })
 }
 
 // Sound.
@@ -225,11 +216,7 @@ impl Model {
             && self.live_processes().iter().all(|&p| self.fits(p))
             && self.ready_falls()
             && self.runner_is_most_urgent()
-            && !self
-                .structures
-                .iter()
-                .flatten()
-                .any(|s| self.could_serve(s))
+            && !self.structures.iter().flatten().any(|s| self.could_serve(s))
             && self.bays_apart()
     }
 
@@ -294,10 +281,7 @@ impl Model {
                     Some(Place::Getting(_, length)) => length as usize <= ring.held.len(),
                     _ => false,
                 };
-                gets || ring
-                    .putters
-                    .front()
-                    .is_some_and(|head| parcel(head) <= ring.room())
+                gets || ring.putters.front().is_some_and(|head| parcel(head) <= ring.room())
             }
         }
     }
@@ -317,8 +301,6 @@ fn in_range(structure: &Structure) -> bool {
     match structure {
         Structure::Semaphore(semaphore) if semaphore.counting => semaphore.value <= LARGEST_COUNT,
         Structure::Semaphore(semaphore) => semaphore.value <= 1,
-        Structure::Ring(ring) => {
-            (1..=LARGEST_RING).contains(&ring.size) && ring.held.len() <= ring.size
-        }
+        Structure::Ring(ring) => (1..=LARGEST_RING).contains(&ring.size) && ring.held.len() <= ring.size,
     }
 }

@@ -69,11 +69,7 @@ impl Panel {
     /// A fresh panel: nothing live, nobody runs.
     pub fn new() -> Panel {
         let mut state = [0; STATE];
-        assert_eq!(
-            fresh(&mut state),
-            0,
-            "the library wants a state of another length"
-        );
+        assert_eq!(fresh(&mut state), 0, "the library wants a state of another length");
         Panel { state }
     }
 

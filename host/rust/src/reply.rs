@@ -105,11 +105,7 @@ impl Reply {
             2 => Outcome::Waits,
             code => return Err(Refusal::ALL[code as usize - 39]),
         };
-        Ok(Reply {
-            outcome,
-            running: record[1],
-            told: told(request, outcome, record),
-        })
+        Ok(Reply { outcome, running: record[1], told: told(request, outcome, record) })
     }
 }
 
@@ -118,20 +114,10 @@ fn told(request: &Request, outcome: Outcome, record: &Record) -> Told {
     let m = u32::from_le_bytes([record[4], record[5], record[6], record[7]]);
     match request {
         Request::CreateProcess { .. } | Request::CreateStructure(_) => Told::Created(n),
-        Request::ProcessState { .. } => Told::ProcessState {
-            structure: n,
-            priority: l,
-            place: m as u8,
-        },
-        Request::StructureValue { .. } => Told::StructureValue {
-            in_lines: n,
-            kind: l,
-            value: m,
-        },
+        Request::ProcessState { .. } => Told::ProcessState { structure: n, priority: l, place: m as u8 },
+        Request::StructureValue { .. } => Told::StructureValue { in_lines: n, kind: l, value: m },
         Request::SignalAll { .. } => Told::Released(n),
-        Request::Get { .. } | Request::ConditionalGet { .. } | Request::Collect
-            if outcome == Outcome::Done =>
-        {
+        Request::Get { .. } | Request::ConditionalGet { .. } | Request::Collect if outcome == Outcome::Done => {
             let mut data = [0; DATA];
             data.copy_from_slice(&record[8..]);
             Told::Bytes(Bytes { length: l, data })

@@ -15,10 +15,7 @@ const BYTES: [u8; 65] = [7; 65];
 fn ask(pair: &mut Pair, caller: Caller, request: Request, code: u8) -> (u8, u32) {
     let reply = pair.ask(&request.record(caller));
     assert_eq!(reply[0], code, "{request:?}");
-    (
-        reply[2],
-        u32::from_le_bytes(reply[4..8].try_into().unwrap()),
-    )
+    (reply[2], u32::from_le_bytes(reply[4..8].try_into().unwrap()))
 }
 
 /// Asks several times, each time done.
@@ -65,10 +62,7 @@ fn nine_signals() {
 #[test]
 fn rings_of_8() {
     let get = |length| Get { ring: 1, length };
-    let put = |length: usize| Put {
-        ring: 1,
-        bytes: &BYTES[..length],
-    };
+    let put = |length: usize| Put { ring: 1, bytes: &BYTES[..length] };
     let mut one = panel(Kind::Ring { size: 8 }, 2);
     ask(&mut one, RunningProcess, get(6), 2);
     ask(&mut one, RunningProcess, put(4), 0);
@@ -80,12 +74,7 @@ fn rings_of_8() {
     ask(&mut two, RunningProcess, get(1), 2);
     ask(&mut two, RunningProcess, put(5), 0);
     assert_eq!((place(&mut two, P1), place(&mut two, P2)), (5, 5));
-    ask(
-        &mut two,
-        RunningProcess,
-        ConditionalGet { ring: 1, length: 1 },
-        1,
-    );
+    ask(&mut two, RunningProcess, ConditionalGet { ring: 1, length: 1 }, 1);
     ask(&mut two, RunningProcess, put(1), 0);
     assert_eq!((place(&mut two, P1), place(&mut two, P2)), (2, 5));
     assert_eq!(held(&mut two), 0);
@@ -98,12 +87,7 @@ fn rings_of_8() {
     assert_eq!((place(&mut standoff, P1), place(&mut standoff, P2)), (5, 2));
     assert_eq!(held(&mut standoff), 5);
     ask(&mut standoff, RunningProcess, put(9), 49);
-    ask(
-        &mut standoff,
-        RunningProcess,
-        DeleteStructure { structure: 1 },
-        51,
-    );
+    ask(&mut standoff, RunningProcess, DeleteStructure { structure: 1 }, 51);
 }
 
 #[test]
@@ -119,10 +103,7 @@ fn a_suspended_waiter_signalled() {
 
 #[test]
 fn lengths_and_callers() {
-    let put = |ring, length: usize| Put {
-        ring,
-        bytes: &BYTES[..length],
-    };
+    let put = |ring, length: usize| Put { ring, bytes: &BYTES[..length] };
     let mut pair = panel(Kind::Ring { size: 256 }, 0);
     ask(&mut pair, RunningProcess, put(1, 64), 42);
     ask(&mut pair, Board, CreateProcess { priority: 5 }, 0);
@@ -160,9 +141,7 @@ fn the_listing() {
         let request = request.try_into().unwrap();
         let reply = pair.ask(request);
         let m = u32::from_le_bytes(reply[4..8].try_into().unwrap());
-        let [code, running, n, l] = reply[..4] else {
-            unreachable!()
-        };
+        let [code, running, n, l] = reply[..4] else { unreachable!() };
         lines += &format!("{} {code} {running} {n} {l} {m}\n", request[0]);
     }
     assert_eq!(lines, expected);
@@ -174,68 +153,31 @@ fn typed_replies() {
     let created = panel.call(Board, CreateProcess { priority: 9 }).unwrap();
     assert_eq!((created.outcome, created.running), (Outcome::Done, 1));
     assert_eq!(created.told, Told::Created(1));
-    panel
-        .call(Board, CreateStructure(Kind::Ring { size: 8 }))
-        .unwrap();
-    panel
-        .call(Board, CreateStructure(Kind::Counting { value: 300 }))
-        .unwrap();
+    panel.call(Board, CreateStructure(Kind::Ring { size: 8 })).unwrap();
+    panel.call(Board, CreateStructure(Kind::Counting { value: 300 })).unwrap();
 
-    let waits = panel
-        .call(RunningProcess, Get { ring: 1, length: 4 })
-        .unwrap();
-    assert_eq!(
-        (waits.outcome, waits.running, waits.told),
-        (Outcome::Waits, 0, Told::Nothing)
-    );
+    let waits = panel.call(RunningProcess, Get { ring: 1, length: 4 }).unwrap();
+    assert_eq!((waits.outcome, waits.running, waits.told), (Outcome::Waits, 0, Told::Nothing));
     let state = panel.call(Board, ProcessState { process: 1 }).unwrap();
-    let getting = Told::ProcessState {
-        structure: 1,
-        priority: 9,
-        place: 5,
-    };
+    let getting = Told::ProcessState { structure: 1, priority: 9, place: 5 };
     assert_eq!(state.told, getting);
-    let put = ConditionalPut {
-        ring: 1,
-        bytes: b"pump",
-    };
+    let put = ConditionalPut { ring: 1, bytes: b"pump" };
     assert_eq!(panel.call(Board, put).unwrap().running, 1);
     let Told::Bytes(bytes) = panel.call(RunningProcess, Collect).unwrap().told else {
         panic!("collect brings bytes");
     };
     assert_eq!(bytes.as_slice(), b"pump");
     let nothing = panel.call(RunningProcess, Collect).unwrap();
-    assert_eq!(
-        (nothing.outcome, nothing.told),
-        (Outcome::No, Told::Nothing)
-    );
+    assert_eq!((nothing.outcome, nothing.told), (Outcome::No, Told::Nothing));
     let value = panel.call(Board, StructureValue { structure: 2 }).unwrap();
-    let counting = Told::StructureValue {
-        in_lines: 0,
-        kind: 2,
-        value: 300,
-    };
+    let counting = Told::StructureValue { in_lines: 0, kind: 2, value: 300 };
     assert_eq!(value.told, counting);
-    panel
-        .call(RunningProcess, Sleep { milliseconds: 3 })
-        .unwrap();
-    assert_eq!(
-        panel.call(Board, SignalAll { semaphore: 2 }).unwrap().told,
-        Told::Released(0)
-    );
+    panel.call(RunningProcess, Sleep { milliseconds: 3 }).unwrap();
+    assert_eq!(panel.call(Board, SignalAll { semaphore: 2 }).unwrap().told, Told::Released(0));
 
-    assert_eq!(
-        panel.call(Board, Wait { semaphore: 2 }),
-        Err(Refusal::WrongCaller)
-    );
-    assert_eq!(
-        panel.call(Board, Signal { semaphore: 1 }),
-        Err(Refusal::WrongKind)
-    );
+    assert_eq!(panel.call(Board, Wait { semaphore: 2 }), Err(Refusal::WrongCaller));
+    assert_eq!(panel.call(Board, Signal { semaphore: 1 }), Err(Refusal::WrongKind));
     let mut damaged = *panel.state();
     damaged[0] = 33;
-    assert_eq!(
-        Panel::with_state(damaged).call(Board, Tick),
-        Err(Refusal::NotSound)
-    );
+    assert_eq!(Panel::with_state(damaged).call(Board, Tick), Err(Refusal::NotSound));
 }

@@ -3,7 +3,7 @@
 mod common;
 
 use common::{first_seed, Asker, Pair};
-use model::{call, Model, Record, Structure, PROCESSES};
+use model::{Model, Record, Structure, PROCESSES};
 use std::collections::BTreeSet;
 
 const PANELS: u64 = 250;
@@ -47,7 +47,7 @@ impl Reached {
         }
         let (first, putters) = lines(model, n);
         self.longest_line = self.longest_line.max(first).max(putters);
-        if (call::PUT..=call::RESET_RING).contains(&call) {
+        if (18..=22).contains(&call) {
             let joined = usize::from(code == 2);
             let served = before.lines.0 + before.lines.1 + joined - first - putters;
             self.served_at_once = self.served_at_once.max(served);
@@ -55,18 +55,16 @@ impl Reached {
             self.both_served += usize::from(both);
         }
         match call {
-            call::TICK => {
+            1 => {
                 let woken = before.sleepers - model.sleepers.len();
                 self.woken_at_once = self.woken_at_once.max(woken);
             }
-            call::SIGNAL_ALL => self.released_at_once = self.released_at_once.max(reply[2].into()),
-            call::CREATE_PROCESS => self.numbers_reused += usize::from(reply[2] < before.newest),
-            call::CREATE_STRUCTURE => self
-                .ring_sizes
-                .extend(model.live_ring(reply[2]).map(|r| r.size)),
+            15 => self.released_at_once = self.released_at_once.max(reply[2].into()),
+            2 => self.numbers_reused += usize::from(reply[2] < before.newest),
+            10 => self.ring_sizes.extend(model.live_ring(reply[2]).map(|r| r.size)),
             _ => {}
         }
-        let releases = call == call::TICK || call >= call::SIGNAL;
+        let releases = call == 1 || call >= 13;
         self.suspended_released += usize::from(releases && model.parked.len() > before.parked);
         let full = before.newest == PROCESSES && model.live_structures().len() == 24;
         self.full_panels += usize::from(full && model.rings().count() == 8);

@@ -29,18 +29,9 @@ impl Verdicts {
             return;
         };
         self.sound += 1;
-        assert_eq!(
-            reply,
-            model.step(request),
-            "sound says the model, {}",
-            name()
-        );
+        assert_eq!(reply, model.step(request), "sound says the model, {}", name());
         assert_eq!(code, u32::from(reply[0]), "{}", name());
-        assert!(
-            after == model.write(),
-            "another state afterwards, {}",
-            name()
-        );
+        assert!(after == model.write(), "another state afterwards, {}", name());
     }
 }
 
@@ -65,9 +56,7 @@ fn damage(state: &mut [u8], random: &mut Random) {
         3 => state[at] = state[at].wrapping_add(random.pick(&[1, 255])),
         4 => {
             let end = LENGTH.min(at + random.between(1, 64));
-            state[at..end]
-                .iter_mut()
-                .for_each(|byte| *byte = random.byte());
+            state[at..end].iter_mut().for_each(|byte| *byte = random.byte());
         }
         5 => state[at..LENGTH.min(at + random.between(1, 16))].fill(0),
         6 => state.swap(random.between(1, 32), random.between(1, 32)),
@@ -77,8 +66,7 @@ fn damage(state: &mut [u8], random: &mut Random) {
 
 /// Exchanges two entries of one of the tables.
 fn exchange(state: &mut [u8], random: &mut Random) {
-    let (offset, bytes, entries) =
-        random.pick(&[(33, 8, 32), (289, 3, 24), (361, 6, 8), (409, 2, 32)]);
+    let (offset, bytes, entries) = random.pick(&[(33, 8, 32), (289, 3, 24), (361, 6, 8), (409, 2, 32)]);
     let (one, other) = (random.below(entries), random.below(entries));
     for i in 0..bytes {
         state.swap(offset + one * bytes + i, offset + other * bytes + i);
@@ -116,11 +104,7 @@ fn every_byte_every_value() {
         let mut state = lived_in(&mut Asker::new(seed), 700).state;
         for at in 0..LENGTH {
             let kept = state[at];
-            let values: &[u8] = if at < CONTROL {
-                &ALL
-            } else {
-                &[0, 1, 0x80, 0xFF]
-            };
+            let values: &[u8] = if at < CONTROL { &ALL } else { &[0, 1, 0x80, 0xFF] };
             for &value in values {
                 state[at] = value;
                 let name = || format!("BROMBEERTOR_SEED={seed}, byte {at} = {value}");
@@ -169,17 +153,10 @@ fn built_structure(random: &mut Random, bays: &mut Vec<u8>) -> Option<Structure>
         0 => None,
         1 | 2 => Some(Structure::Semaphore(Semaphore {
             counting,
-            value: if counting {
-                random.pick(&[1, 500, 32_767])
-            } else {
-                1
-            },
+            value: if counting { random.pick(&[1, 500, 32_767]) } else { 1 },
             ..Semaphore::default()
         })),
-        3 => Some(Structure::Semaphore(Semaphore {
-            counting,
-            ..Semaphore::default()
-        })),
+        3 => Some(Structure::Semaphore(Semaphore { counting, ..Semaphore::default() })),
         _ => {
             let size = random.pick(&[1, 2, 8, 40, 64, 200, 256]);
             let held = random.between(0, size);
@@ -208,9 +185,7 @@ fn built_process(random: &mut Random, model: &Model, joined: u64) -> Process {
     process.place = match (random.below(8), model.live_structure(n)) {
         (0, _) => Place::Ready,
         (1, _) => Place::Asleep(random.pick(&[1, 2, 77, 2_147_483_647])),
-        (_, Some(Structure::Semaphore(semaphore))) if bold || semaphore.value == 0 => {
-            Place::InLine(n)
-        }
+        (_, Some(Structure::Semaphore(semaphore))) if bold || semaphore.value == 0 => Place::InLine(n),
         (2..=4, Some(Structure::Ring(ring))) => match longer(random, ring.held.len(), ring.size) {
             Some(length) => Place::Getting(n, length),
             None => Place::Parked,
@@ -246,9 +221,7 @@ fn longer(random: &mut Random, goes: usize, size: usize) -> Option<u8> {
 /// The most urgent of the ready ones runs, not always the first of them.
 fn somebody_runs(random: &mut Random, model: &mut Model) {
     let ready = |model: &Model, p: u8| {
-        let process = model
-            .live_process(p)
-            .filter(|process| process.place == Place::Ready);
+        let process = model.live_process(p).filter(|process| process.place == Place::Ready);
         process.map(|process| (process.priority, p))
     };
     let best = (1..=32).filter_map(|p| ready(model, p)).max();
@@ -303,9 +276,7 @@ fn wrong_lengths() {
         assert_eq!(brombeertor::call(&mut state, &long, &mut reply), 39);
         let mut other = vec![0xEE; length];
         assert_eq!(brombeertor::call(&mut state, &request, &mut other), 39);
-        let kept = [&state, &reply, &other]
-            .iter()
-            .all(|bytes| bytes.iter().all(|&b| b == 0xEE));
+        let kept = [&state, &reply, &other].iter().all(|bytes| bytes.iter().all(|&b| b == 0xEE));
         assert!(kept, "39 and yet a buffer changed");
     }
     for length in [0, 1, LENGTH - 1, LENGTH + 1, 2 * LENGTH] {
@@ -313,16 +284,10 @@ fn wrong_lengths() {
         let mut reply = [0xEE; RECORD];
         assert_eq!(brombeertor::call(&mut state, &request, &mut reply), 40);
         assert_eq!(reply, record(40, 0, 0, 0, 0, &[]));
-        assert!(
-            state.iter().all(|&byte| byte == 0),
-            "40 and yet the state changed"
-        );
+        assert!(state.iter().all(|&byte| byte == 0), "40 and yet the state changed");
         let mut lent = vec![0xEE; length];
         assert_eq!(brombeertor::fresh(&mut lent), 40);
-        assert!(
-            lent.iter().all(|&byte| byte == 0xEE),
-            "40 and yet the buffer changed"
-        );
+        assert!(lent.iter().all(|&byte| byte == 0xEE), "40 and yet the buffer changed");
     }
     assert_eq!(brombeertor::state_length(), LENGTH);
     assert_eq!(brombeertor::STATE, LENGTH);

@@ -33,14 +33,7 @@ impl Panel {
         let mut state = vec![0; brombeertor::state_length()];
         assert_eq!(brombeertor::fresh(&mut state), 0);
         let model = Model::fresh();
-        Panel {
-            state,
-            model,
-            open: 0,
-            closed: 0,
-            ring: 0,
-            process: 1,
-        }
+        Panel { state, model, open: 0, closed: 0, ring: 0, process: 1 }
     }
 
     /// Asks both and expects a code; gives N.
@@ -66,14 +59,7 @@ impl Panel {
 
     fn create_ring(&mut self) -> u8 {
         let ring = self.create(Kind::Ring { size: 256 });
-        self.ask(
-            Board,
-            ConditionalPut {
-                ring,
-                bytes: &BYTES,
-            },
-            0,
-        );
+        self.ask(Board, ConditionalPut { ring, bytes: &BYTES }, 0);
         ring
     }
 
@@ -114,12 +100,7 @@ impl Panel {
         panel.create(Kind::Ring { size: 110 });
         panel.ask(Board, ConditionalPut { ring, bytes }, 0);
         let leaving = [
-            (
-                9,
-                Sleep {
-                    milliseconds: 2_000_000_000,
-                },
-            ),
+            (9, Sleep { milliseconds: 2_000_000_000 }),
             (5, Wait { semaphore }),
             (4, Get { ring, length: 64 }),
             (4, Put { ring, bytes }),
@@ -141,10 +122,7 @@ type Case = [(Caller, Request<'static>); 2];
 fn cases(panel: &Panel) -> Vec<(&'static str, Case)> {
     let (open, closed) = (panel.open, panel.closed);
     let (ring, process) = (panel.ring, panel.process);
-    let put = ConditionalPut {
-        ring,
-        bytes: &BYTES,
-    };
+    let put = ConditionalPut { ring, bytes: &BYTES };
     let get = ConditionalGet { ring, length: 64 };
     let signal = |semaphore| (Board, Signal { semaphore });
     let running = |request| (RunningProcess, request);
@@ -152,27 +130,12 @@ fn cases(panel: &Panel) -> Vec<(&'static str, Case)> {
         ("tick", [(Board, Tick), (Board, Tick)]),
         (
             "process state, structure value",
-            [
-                (Board, ProcessState { process }),
-                (Board, StructureValue { structure: ring }),
-            ],
+            [(Board, ProcessState { process }), (Board, StructureValue { structure: ring })],
         ),
-        (
-            "signal, conditional wait",
-            [signal(open), running(ConditionalWait { semaphore: open })],
-        ),
-        (
-            "wait, signal",
-            [running(Wait { semaphore: closed }), signal(closed)],
-        ),
-        (
-            "suspend, resume",
-            [running(Suspend { process }), (Board, Resume { process })],
-        ),
-        (
-            "sleep 1, tick",
-            [running(Sleep { milliseconds: 1 }), (Board, Tick)],
-        ),
+        ("signal, conditional wait", [signal(open), running(ConditionalWait { semaphore: open })]),
+        ("wait, signal", [running(Wait { semaphore: closed }), signal(closed)]),
+        ("suspend, resume", [running(Suspend { process }), (Board, Resume { process })]),
+        ("sleep 1, tick", [running(Sleep { milliseconds: 1 }), (Board, Tick)]),
         ("conditional get, put of 64", [running(get), (Board, put)]),
     ]
 }
@@ -201,10 +164,7 @@ fn measure(panel: &mut Panel, case: &Case) -> (f64, f64) {
         });
         best = (best.0.min(kernel), best.1.min(model));
     }
-    assert!(
-        panel.state == panel.model.write(),
-        "kernel and model did not do the same"
-    );
+    assert!(panel.state == panel.model.write(), "kernel and model did not do the same");
     best
 }
 
@@ -232,22 +192,12 @@ fn measure_many_served() -> (f64, f64) {
     for _ in 0..2000 {
         let mut panel = before.clone();
         let begun = Instant::now();
-        black_box(brombeertor::call(
-            &mut panel.state,
-            black_box(&record),
-            &mut reply,
-        ));
+        black_box(brombeertor::call(&mut panel.state, black_box(&record), &mut reply));
         let kernel = begun.elapsed().as_nanos() as f64;
         let begun = Instant::now();
         black_box(panel.model.perform(black_box(&record)));
-        best = (
-            best.0.min(kernel),
-            best.1.min(begun.elapsed().as_nanos() as f64),
-        );
-        assert!(
-            panel.state == panel.model.write(),
-            "kernel and model did not do the same"
-        );
+        best = (best.0.min(kernel), best.1.min(begun.elapsed().as_nanos() as f64));
+        assert!(panel.state == panel.model.write(), "kernel and model did not do the same");
     }
     best
 }
@@ -283,18 +233,10 @@ fn print_calls() {
         });
         println!("| {name} | {} |", row.join(" | "));
     }
-    let refused = panels
-        .each_mut()
-        .map(|panel| format!("{:.0} | |", measure_refused(panel)));
+    let refused = panels.each_mut().map(|panel| format!("{:.0} | |", measure_refused(panel)));
     println!("| refused | {} |", refused.join(" "));
-    println!(
-        "| put that serves 31 | | | | {} | | | |\n",
-        cells(measure_many_served())
-    );
-    println!(
-        "Looking at every byte of a state once: {:.0} ns\n",
-        measure_glance()
-    );
+    println!("| put that serves 31 | | | | {} | | | |\n", cells(measure_many_served()));
+    println!("Looking at every byte of a state once: {:.0} ns\n", measure_glance());
 }
 
 /// Signal and conditional wait, the kernel alone, by live processes and rings.

@@ -1,7 +1,7 @@
 //! The kernel and the model side by side, and requests at random.
 #![allow(dead_code)]
 
-use model::{call, Model, Record, Structure, RECORD};
+use model::{Model, Record, Structure, RECORD};
 
 /// Where the seeds begin: BROMBEERTOR_SEED, else 1. A failing panel tells its own seed.
 pub fn first_seed() -> u64 {
@@ -82,24 +82,14 @@ impl Pair {
     pub fn fresh(name: String) -> Pair {
         let mut state = vec![0xEE; brombeertor::state_length()];
         assert_eq!(brombeertor::fresh(&mut state), 0);
-        let pair = Pair {
-            state,
-            model: Model::fresh(),
-            name,
-            asked: 0,
-        };
+        let pair = Pair { state, model: Model::fresh(), name, asked: 0 };
         assert_eq!(pair.state, pair.model.write());
         pair
     }
 
     /// A panel with a sound state.
     pub fn with_state(state: Vec<u8>, model: Model, name: String) -> Pair {
-        Pair {
-            state,
-            model,
-            name,
-            asked: 0,
-        }
+        Pair { state, model, name, asked: 0 }
     }
 
     /// Asks both: replies and states are compared whole.
@@ -146,12 +136,7 @@ pub struct Asker {
 
 impl Asker {
     pub fn new(seed: u64) -> Asker {
-        Asker {
-            random: Random::new(seed),
-            mood: MOODS[0],
-            favourite: 1,
-            small: true,
-        }
+        Asker { random: Random::new(seed), mood: MOODS[0], favourite: 1, small: true }
     }
 
     /// The next request.
@@ -169,11 +154,7 @@ impl Asker {
     }
 
     fn meaningful(&mut self, model: &Model) -> Record {
-        let call = if self.random.one_in(8) {
-            self.random.between(1, 23) as u8
-        } else {
-            self.random.pick(self.mood)
-        };
+        let call = if self.random.one_in(8) { self.random.between(1, 23) as u8 } else { self.random.pick(self.mood) };
         let caller = self.caller(call, model);
         let n = match call {
             4..=6 | 8 => self.process(model),
@@ -201,7 +182,7 @@ impl Asker {
 
     /// Mostly one who is allowed the call.
     fn caller(&mut self, call: u8, model: &Model) -> u8 {
-        let board_only = call == call::TICK;
+        let board_only = call == 1;
         let process_only = matches!(call, 3 | 4 | 6 | 7 | 9 | 16 | 17 | 18 | 20 | 21 | 23);
         if self.random.one_in(40) {
             return self.random.below(3) as u8;
@@ -251,11 +232,7 @@ impl Asker {
         let Some(ring) = model.live_ring(n) else {
             return self.random.between(1, 64) as u8;
         };
-        let goes = if call < 20 {
-            ring.room()
-        } else {
-            ring.held.len()
-        };
+        let goes = if call < 20 { ring.room() } else { ring.held.len() };
         let length = match self.random.below(16) {
             0 => self.random.between(0, 70),
             1..=3 => goes,
@@ -278,9 +255,7 @@ impl Asker {
     fn amount(&mut self, kind: u8) -> u32 {
         match kind {
             1 => self.random.pick(&[0, 0, 0, 1, 1, 2]),
-            2 => self
-                .random
-                .pick(&[0, 0, 0, 0, 1, 3, 32_760, 32_766, 32_767, 32_768]),
+            2 => self.random.pick(&[0, 0, 0, 0, 1, 3, 32_760, 32_766, 32_767, 32_768]),
             3 if self.small => self.random.between(0, 12) as u32,
             3 if self.random.one_in(4) => self.random.pick(&[64, 255, 256, 257]),
             3 => self.random.between(1, 256) as u32,
