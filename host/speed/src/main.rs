@@ -29,6 +29,7 @@ struct Panel {
 }
 
 impl Panel {
+    /// Nothing live.
     fn fresh() -> Panel {
         let mut state = vec![0; brombeertor::state_length()];
         assert_eq!(brombeertor::fresh(&mut state), 0);
@@ -53,10 +54,12 @@ impl Panel {
         }
     }
 
+    /// A new structure's number.
     fn create(&mut self, kind: Kind) -> u8 {
         self.ask(Board, CreateStructure(kind), 0)
     }
 
+    /// A new ring of 256 that holds 64 bytes.
     fn create_ring(&mut self) -> u8 {
         let ring = self.create(Kind::Ring { size: 256 });
         self.ask(Board, ConditionalPut { ring, bytes: &BYTES }, 0);
@@ -140,7 +143,7 @@ fn cases(panel: &Panel) -> Vec<(&'static str, Case)> {
     ]
 }
 
-/// Nanoseconds for each of `CALLS` calls.
+/// Nanoseconds for each of `CALLS` calls, by turns of the two.
 fn timed(records: &[Record; 2], mut call: impl FnMut(&Record)) -> f64 {
     let begun = Instant::now();
     for _ in 0..CALLS / 2 {
@@ -154,6 +157,11 @@ fn timed(records: &[Record; 2], mut call: impl FnMut(&Record)) -> f64 {
 fn measure(panel: &mut Panel, case: &Case) -> (f64, f64) {
     let records = case.map(|(caller, request)| request.record(caller));
     let mut reply = [0; RECORD];
+    for record in &records {
+        brombeertor::call(&mut panel.state, record, &mut reply);
+        assert_eq!(reply, panel.model.step(record));
+        assert!(reply[0] <= 2, "only what is accepted is compared");
+    }
     let mut best = (f64::MAX, f64::MAX);
     for _ in 0..ROUNDS {
         let kernel = timed(&records, |request| {
@@ -219,6 +227,7 @@ fn cells((kernel, model): (f64, f64)) -> String {
     format!("{kernel:.0} | {model:.0} | {:.0}", kernel / model)
 }
 
+/// Every case on the three panels.
 fn print_calls() {
     let mut panels = [Panel::empty(), Panel::full(), Panel::busy()];
     println!("Nanoseconds a call\n");
@@ -234,7 +243,7 @@ fn print_calls() {
         println!("| {name} | {} |", row.join(" | "));
     }
     let refused = panels.each_mut().map(|panel| format!("{:.0} | |", measure_refused(panel)));
-    println!("| refused | {} |", refused.join(" "));
+    println!("| refused | {} |", refused.join(" | "));
     println!("| put that serves 31 | | | | {} | | | |\n", cells(measure_many_served()));
     println!("Looking at every byte of a state once: {:.0} ns\n", measure_glance());
 }
