@@ -192,7 +192,7 @@ fn read_structure(n: u8, bytes: &[u8]) -> Option<Option<Structure>> {
     }
 }
 
-/// The ring in a bay, with no lines yet; none where its numbers are out of range.
+/// The ring in a bay, with no lines yet; none where bay or size is none.
 fn read_ring(bay: u16, bytes: &[u8]) -> Option<Ring> {
     let bay = u8::try_from(bay).ok()?;
     if !(1..=BAYS).contains(&bay) {
@@ -200,7 +200,7 @@ fn read_ring(bay: u16, bytes: &[u8]) -> Option<Ring> {
     }
     let numbers = &bytes[bay_numbers(bay)];
     let [start, size, held] = [0, 2, 4].map(|at| u16_at(numbers, at) as usize);
-    if !(1..=LARGEST_RING).contains(&size) || start >= size || held > size {
+    if !(1..=LARGEST_RING).contains(&size) {
         return None;
     }
     let byte = |i| bytes[bay_bytes(bay)][(start + i) % size];
@@ -209,12 +209,12 @@ fn read_ring(bay: u16, bytes: &[u8]) -> Option<Ring> {
 
 // Sound.
 impl Model {
-    /// The paper's sentences in their order, but for unused room, which tables do not have.
+    /// The paper's sentences in their order, but for two: tables have no unused room, and the layout's ready line falls
+    /// in priority however its bytes are.
     pub fn sound(&self) -> bool {
         self.listed_once()
             && self.structures.iter().flatten().all(in_range)
             && self.live_processes().iter().all(|&p| self.fits(p))
-            && self.ready_falls()
             && self.runner_is_most_urgent()
             && !self.structures.iter().flatten().any(|s| self.could_serve(s))
             && self.bays_apart()
@@ -236,7 +236,8 @@ impl Model {
         listed == self.live_processes()
     }
 
-    /// Lengths and remainder in range, suspended or not as its place asks, its parcel as its place asks.
+    /// Lengths and remainder in range, suspended or not and its parcel as its place asks; a parcel of more than 64 was
+    /// not read.
     fn fits(&self, p: u8) -> bool {
         let process = self.live_process(p).expect("a live process");
         let parcel = process.parcel.len();
@@ -244,22 +245,14 @@ impl Model {
             let size = self.live_ring(n).map_or(0, |ring| ring.size);
             (1..=DATA.min(size)).contains(&length)
         };
-        parcel <= DATA
-            && match process.place {
-                Place::Running => self.running == p && !process.suspended,
-                Place::Ready => !process.suspended,
-                Place::Parked => process.suspended,
-                Place::InLine(_) => true,
-                Place::Getting(n, length) => transfer(n, length as usize) && parcel == 0,
-                Place::Putting(n) => transfer(n, parcel),
-                Place::Asleep(left) => (1..=LONGEST_SLEEP).contains(&left),
-            }
-    }
-
-    /// "The ready line falls in priority."
-    fn ready_falls(&self) -> bool {
-        let line = self.ready.iter().map(|&p| self.priority(p));
-        line.clone().zip(line.skip(1)).all(|(a, b)| a >= b)
+        match process.place {
+            Place::Running | Place::Ready => !process.suspended,
+            Place::Parked => process.suspended,
+            Place::InLine(_) => true,
+            Place::Getting(n, length) => transfer(n, length as usize) && parcel == 0,
+            Place::Putting(n) => transfer(n, parcel),
+            Place::Asleep(left) => (1..=LONGEST_SLEEP).contains(&left),
+        }
     }
 
     /// "Running is 0 only with an empty ready line, and is no less urgent than its head."
@@ -296,11 +289,11 @@ impl Model {
     }
 }
 
-/// Values and sizes in range.
+/// Its values in range; a ring's size was seen to when it was read.
 fn in_range(structure: &Structure) -> bool {
     match structure {
         Structure::Semaphore(semaphore) if semaphore.counting => semaphore.value <= LARGEST_COUNT,
         Structure::Semaphore(semaphore) => semaphore.value <= 1,
-        Structure::Ring(ring) => (1..=LARGEST_RING).contains(&ring.size) && ring.held.len() <= ring.size,
+        Structure::Ring(ring) => ring.start < ring.size && ring.held.len() <= ring.size,
     }
 }
