@@ -114,12 +114,12 @@ fn write_ring(ring: &Ring, bytes: &mut [u8]) {
 impl Model {
     /// What the bytes say, if they are a sound state. Unused room is zero if writing gives the same bytes.
     pub fn read(bytes: &[u8]) -> Option<Model> {
-        let model = Model::read_tables(bytes)?;
+        let model = Model::read_untested(bytes)?;
         (model.sound() && model.write() == bytes).then_some(model)
     }
 
     /// The tables and lines that the bytes name, sound or not; none where a number names nothing.
-    fn read_tables(bytes: &[u8]) -> Option<Model> {
+    pub fn read_untested(bytes: &[u8]) -> Option<Model> {
         if bytes.len() != LENGTH {
             return None;
         }

@@ -1,5 +1,5 @@
-//! Nanoseconds a call: the kernel, and the model's `perform`, which tests neither state nor request, in one run.
-//! After every case both must have come to the same state.
+//! Nanoseconds a call: the kernel, and the model's `perform`, which tests neither state nor request, in one run; the model
+//! once with its tables in memory and once on a lent state's bytes. After every case all must have come to the same state.
 
 use brombeertor::{Caller, Kind, Record, Request, RECORD};
 use model::Model;
@@ -153,8 +153,24 @@ fn timed(records: &[Record; 2], mut call: impl FnMut(&Record)) -> f64 {
     begun.elapsed().as_nanos() as f64 / CALLS as f64
 }
 
-/// Best nanoseconds a call of kernel and model, rounds of one and the other in turn.
-fn measure(panel: &mut Panel, case: &Case) -> (f64, f64) {
+/// Nanoseconds a call: the kernel, the model with its tables in memory, the model on a state's bytes.
+type Times = [f64; 3];
+
+/// The lesser of each.
+fn best(a: Times, b: Times) -> Times {
+    [0, 1, 2].map(|i| a[i].min(b[i]))
+}
+
+/// The model as a kernel that tests nothing: it reads the state's bytes, performs and writes them.
+fn perform_on_bytes(state: &mut Vec<u8>, request: &Record) -> Record {
+    let mut model = Model::read_untested(state).expect("a state");
+    let reply = model.perform(request);
+    *state = model.write();
+    reply
+}
+
+/// Best nanoseconds a call, rounds of each in turn.
+fn measure(panel: &mut Panel, case: &Case) -> Times {
     let records = case.map(|(caller, request)| request.record(caller));
     let mut reply = [0; RECORD];
     for record in &records {
@@ -162,7 +178,8 @@ fn measure(panel: &mut Panel, case: &Case) -> (f64, f64) {
         assert_eq!(reply, panel.model.step(record));
         assert!(reply[0] <= 2, "only what is accepted is compared");
     }
-    let mut best = (f64::MAX, f64::MAX);
+    let mut bytes = panel.state.clone();
+    let mut times = [f64::MAX; 3];
     for _ in 0..ROUNDS {
         let kernel = timed(&records, |request| {
             black_box(brombeertor::call(&mut panel.state, request, &mut reply));
@@ -170,10 +187,14 @@ fn measure(panel: &mut Panel, case: &Case) -> (f64, f64) {
         let model = timed(&records, |request| {
             black_box(panel.model.perform(request));
         });
-        best = (best.0.min(kernel), best.1.min(model));
+        let on_bytes = timed(&records, |request| {
+            black_box(perform_on_bytes(&mut bytes, request));
+        });
+        times = best(times, [kernel, model, on_bytes]);
     }
     assert!(panel.state == panel.model.write(), "kernel and model did not do the same");
-    best
+    assert!(panel.state == bytes, "kernel and model on bytes did not do the same");
+    times
 }
 
 /// Best nanoseconds of the kernel alone.
@@ -188,26 +209,38 @@ fn measure_refused(panel: &mut Panel) -> f64 {
     rounds.fold(f64::MAX, f64::min)
 }
 
-/// One put that serves 31 getters: best nanoseconds of kernel and model.
-fn measure_many_served() -> (f64, f64) {
+/// Nanoseconds of one call.
+fn once(call: impl FnOnce()) -> f64 {
+    let begun = Instant::now();
+    call();
+    begun.elapsed().as_nanos() as f64
+}
+
+/// One put that serves 31 getters: best nanoseconds.
+fn measure_many_served() -> Times {
     let mut before = Panel::of(32, 0, 0);
     let ring = before.create(Kind::Ring { size: 256 });
     before.leave(Get { ring, length: 1 }, 31);
     let bytes = &BYTES[..31];
     let record = Put { ring, bytes }.record(RunningProcess);
     let mut reply = [0; RECORD];
-    let mut best = (f64::MAX, f64::MAX);
+    let mut times = [f64::MAX; 3];
     for _ in 0..2000 {
         let mut panel = before.clone();
-        let begun = Instant::now();
-        black_box(brombeertor::call(&mut panel.state, black_box(&record), &mut reply));
-        let kernel = begun.elapsed().as_nanos() as f64;
-        let begun = Instant::now();
-        black_box(panel.model.perform(black_box(&record)));
-        best = (best.0.min(kernel), best.1.min(begun.elapsed().as_nanos() as f64));
-        assert!(panel.state == panel.model.write(), "kernel and model did not do the same");
+        let mut bytes = before.state.clone();
+        let kernel = once(|| {
+            black_box(brombeertor::call(&mut panel.state, black_box(&record), &mut reply));
+        });
+        let model = once(|| {
+            black_box(panel.model.perform(black_box(&record)));
+        });
+        let on_bytes = once(|| {
+            black_box(perform_on_bytes(&mut bytes, black_box(&record)));
+        });
+        times = best(times, [kernel, model, on_bytes]);
+        assert!(panel.state == panel.model.write() && panel.state == bytes, "they did not do the same");
     }
-    best
+    times
 }
 
 /// What looking at every byte of a state takes, once and without any use: nothing that tests a state is below it.
@@ -222,30 +255,20 @@ fn measure_glance() -> f64 {
     rounds.fold(f64::MAX, f64::min)
 }
 
-/// "kernel ns | model ns | ratio".
-fn cells((kernel, model): (f64, f64)) -> String {
-    format!("{kernel:.0} | {model:.0} | {:.0}", kernel / model)
+/// A row: the kernel, and each model with how many times its time the kernel takes.
+fn print_row(name: &str, [kernel, model, on_bytes]: Times) {
+    let (ratio, ratio_on_bytes) = (kernel / model, kernel / on_bytes);
+    println!("| {name} | {kernel:.0} | {model:.0} | {ratio:.1} | {on_bytes:.0} | {ratio_on_bytes:.2} |");
 }
 
-/// Every case on the three panels.
-fn print_calls() {
-    let mut panels = [Panel::empty(), Panel::full(), Panel::busy()];
-    println!("Nanoseconds a call\n");
-    let columns = ["empty", "full", "busy"].map(|panel| format!("{panel}: kernel | model | ratio"));
-    println!("| call | {} |", columns.join(" | "));
-    println!("|---|---|---|---|---|---|---|---|---|---|");
-    for row in 0..cases(&panels[0]).len() {
-        let name = cases(&panels[0])[row].0;
-        let row = panels.each_mut().map(|panel| {
-            let case = cases(panel)[row].1;
-            cells(measure(panel, &case))
-        });
-        println!("| {name} | {} |", row.join(" | "));
+/// Every case on a panel.
+fn print_calls(name: &str, mut panel: Panel) {
+    println!("Nanoseconds a call, {name}\n");
+    println!("| call | kernel | model | ratio | model on bytes | ratio |\n|---|---|---|---|---|---|");
+    for (name, case) in cases(&panel) {
+        print_row(name, measure(&mut panel, &case));
     }
-    let refused = panels.each_mut().map(|panel| format!("{:.0} | |", measure_refused(panel)));
-    println!("| refused | {} |", refused.join(" | "));
-    println!("| put that serves 31 | | | | {} | | | |\n", cells(measure_many_served()));
-    println!("Looking at every byte of a state once: {:.0} ns\n", measure_glance());
+    println!("| refused | {:.0} | | | | |", measure_refused(&mut panel));
 }
 
 /// Signal and conditional wait, the kernel alone, by live processes and rings.
@@ -259,7 +282,7 @@ fn print_growth() {
             let semaphore = panel.open;
             let wait = ConditionalWait { semaphore };
             let case = [(Board, Signal { semaphore }), (RunningProcess, wait)];
-            format!("{:.0}", measure(&mut panel, &case).0)
+            format!("{:.0}", measure(&mut panel, &case)[0])
         });
         println!("| {processes} | {} |", row.join(" | "));
     }
@@ -267,6 +290,12 @@ fn print_growth() {
 }
 
 fn main() {
-    print_calls();
+    print_calls("empty panel", Panel::empty());
+    println!();
+    print_calls("full panel", Panel::full());
+    print_row("put that serves 31", measure_many_served());
+    println!();
+    print_calls("busy panel", Panel::busy());
+    println!("\nLooking at every byte of a state once: {:.0} ns\n", measure_glance());
     print_growth();
 }
