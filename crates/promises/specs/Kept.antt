@@ -90,7 +90,7 @@ either-second false b e = e
 
 module _ (t : Tables) (r : Record) (accepted : refusal t r ≡ 0) where
   -- Its call number is the number of its deed
-  call-known : callNumber (rowOf (r .what) .deed) ≡ r .what
+  pub call-known : callNumber (rowOf (r .what) .deed) ≡ r .what
   unfolding applies appliesTo unknownCall
   call-known = number-of-deed (r .what) (ltb-false 23 (r .what) (either-second (eqb (r .what) 0) (ltb 23 (r .what)) (none-refuses t r accepted 41 refl)))
 

@@ -312,7 +312,7 @@ pub record Unused (p : ℕ) (t : Tables) : Type 0 where
   pub nowhere : placeAt (t .processes) p ≡ Nowhere
 
 -- Creation's number is such a one
-free-unused : (t : Tables) → (freeProcess t ≡ 0 → ⊥) → Unused (freeProcess t) t
+pub free-unused : (t : Tables) → (freeProcess t ≡ 0 → ⊥) → Unused (freeProcess t) t
 unfolding freeProcess isFree
 free-unused t z =
     let p = lowestFree 1 (t .processes) in
@@ -346,7 +346,7 @@ module _ (p priority : ℕ) (t : Tables) (steady : Steady t) (unused : Unused p 
   entry : numbered (replaced (t .processes) p (newcomer priority)) p nobody ≡ newcomer priority
   entry = replaced-same (t .processes) p (newcomer priority) nobody (unused .some) (unused .known)
 
-  entry-place : placeAt (replaced (t .processes) p (newcomer priority)) p ≡ Ready
+  pub entry-place : placeAt (replaced (t .processes) p (newcomer priority)) p ≡ Ready
   entry-place = ap (λ (q : Process). q .place) entry
 
   -- It is listed in place of a zero
@@ -363,7 +363,7 @@ module _ (p priority : ℕ) (t : Tables) (steady : Steady t) (unused : Unused p 
       ∙ rw is (append-nil (keep (standing x (t .processes)) (t .order)))
 
   -- Only p changed,
-  began-only : OnlyProcess p t began
+  pub began-only : OnlyProcess p t began
   unfolding SameRunner
   began-only =
       record {
@@ -441,7 +441,7 @@ module _ (t : Tables) (steady : Steady t) (z : t .running ≡ 0 → ⊥) where
   no-entry : numbered (replaced (t .processes) caller nobody) caller nobody ≡ nobody
   no-entry = replaced-same (t .processes) caller nobody nobody z (was-live .known)
 
-  no-place : placeAt (replaced (t .processes) caller nobody) caller ≡ Nowhere
+  pub no-place : placeAt (replaced (t .processes) caller nobody) caller ≡ Nowhere
   no-place = ap (λ (q : Process). q .place) no-entry
 
   no-parcel : parcelAt (replaced (t .parcels) caller emptyParcel) caller ≡ emptyParcel
@@ -460,7 +460,7 @@ module _ (t : Tables) (steady : Steady t) (z : t .running ≡ 0 → ⊥) where
       (t .order) (ap (stands x) (place-zero (replaced (t .processes) caller nobody) 0 refl) ∙ nowhere-stands x) was (ap (stands x) no-place ∙ nowhere-stands x)
 
   -- Only it changed,
-  ended-only : OnlyProcess caller t ended
+  pub ended-only : OnlyProcess caller t ended
   unfolding SameRunner
   ended-only =
       record {

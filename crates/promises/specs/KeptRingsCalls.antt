@@ -101,7 +101,7 @@ module _ (n b : ℕ) (r : bays.Ring) (t : Tables) (fit : Fit b t) (steady : Stea
   same-processes p = refl
 
   -- So all but ring n is as settled and still as before
-  serves-ring : Serves n b after
+  pub serves-ring : Serves n b after
   unfolding withRing processOf numbered StillBut Still
   serves-ring =
       record {
@@ -125,10 +125,10 @@ module _ (n b : ℕ) (r : bays.Ring) (t : Tables) (fit : Fit b t) (steady : Stea
 -- ---- the ways of a transfer
 
 -- A length that a transfer may have
-record Within (l size : ℕ) : Type 0 where
-  some : 1 ≤ l
-  most : l ≤ 64
-  within : l ≤ size
+pub record Within (l size : ℕ) : Type 0 where
+  pub some : 1 ≤ l
+  pub most : l ≤ 64
+  pub within : l ≤ size
 
 -- as the test says
 allowed-within : (l size : ℕ) → allowed l size ≡ true → Within l size
@@ -179,7 +179,7 @@ module _ (n l : ℕ) (t : Tables) (P : Way → Type 0) (closed : P Closed) where
     into-kind (Ring b) e =
         ways P closed b (ringIn t b .size) l (first (line (Putters n) t)) (leb (ringIn t b .held + l) (ringIn t b .size)) (λ w h f. through b e w (leb-true _ _ f)) (waits b e)
 
-    way-in : P (wayIn n l t)
+    pub way-in : P (wayIn n l t)
     unfolding wayIn structureOf
     way-in = into-kind (kindAt (t .structures) n) refl
 
@@ -195,7 +195,7 @@ module _ (n l : ℕ) (t : Tables) (P : Way → Type 0) (closed : P Closed) where
     out-of-kind (Ring b) e =
         ways P closed b (ringIn t b .size) l (first (line (Getters n) t)) (leb l (ringIn t b .held)) (λ w h f. through b e w (leb-true _ _ f)) (waits b e)
 
-    way-out : P (wayOut n l t)
+    pub way-out : P (wayOut n l t)
     unfolding wayOut structureOf
     way-out = out-of-kind (kindAt (t .structures) n) refl
 

@@ -15,22 +15,21 @@ use Rattle.bay.specs.declared.Ring as bays
 use Rattle.bay.specs.declared.Parcel.{Parcel}
 use Rattle.bay.specs.declared.Holding.{Holding}
 use Rattle.bay.specs.declared.Holding.the-variants.{Nothing}
-use Rattle.bay.specs.Bay.{Good, contents, emptyParcel, parcelOf, putOf, getOf}
+use Rattle.bay.specs.Bay.{Good, contents, emptyParcel, parcelOf, getOf}
 use Rattle.bay.specs.Laws.{length-contents, get-good, get-parcelOf, put-good}
 use Rattle.tables.specs.declared.Tables.{Tables}
 use Rattle.tables.specs.declared.Process.{Process}
 use Rattle.tables.specs.declared.Structure.{Structure}
-use Rattle.tables.specs.declared.Place.{Place}
-use Rattle.tables.specs.declared.Place.the-variants.{Running, Getting, Putting}
+use Rattle.tables.specs.declared.Place.the-variants.{Running, Getting}
 use Rattle.tables.specs.declared.Kind.the-variants.{Ring}
 use Rattle.tables.specs.declared.Line.the-variants.{Getters, Putters}
 use Rattle.tables.specs.Access.{nobody, processOf, ringIn, parcelFor, withProcess, withRing, withParcel}
 use Rattle.tables.specs.Laws.{replaced-same}
 use Rattle.tables.specs.Lines.{line}
 use Rattle.ready.specs.Ready.{placed, withPlace, joins, releasedTo, released}
-use Rattle.rings.specs.Serving.{asked, service, servedAs, servedGetter, servedPutter, entered, withMoved, served}
-use Rattle.rings.specs.Changes.{getting, putting, released-out, changed, Listed, changed-stays, changed-others, changed-ring, changed-rings, changed-running, changed-structures, changed-parcel, changed-parcels, changed-order, Fit, head-stands, head-listed}
-use Rattle.rings.specs.Turns.{Chosen, gets, puts, nowhere-getting, nowhere-putting, getter-turn, putter-turn}
+use Rattle.rings.specs.Serving.{asked, service, served}
+use Rattle.rings.specs.Changes.{released-out, changed, Listed, changed-stays, changed-others, changed-ring, changed-rings, changed-running, changed-structures, changed-parcel, changed-parcels, changed-order, Fit}
+use Rattle.rings.specs.Turns.{Chosen, gets, puts, is-getter, who-gets, ring-left, parcel-filled, getter-served, ring-size, is-putter, who-puts, ring-entered, putter-served, entered-size}
 use Rattle.rings.specs.Steps.{served-rests, served-keeps}
 use Rattle.sound.specs.Sound.{placeAt, kindAt, listings, Runs, Fits, PlaceFits, Kept, none, some, used, Settled, Still}
 use Rattle.promises.specs.KeptRings.{one-ring, bay-used, But, Anew, settled-anew}
@@ -160,81 +159,39 @@ serves-changed n b x r y t v fit is waits good size kept =
       ring = rw (changed-structures b x r y t is) (v .ring);
     }
 
+-- The head getter
 module _ (n b x : ℕ) (gs : List ℕ) (t : Tables) (fit : Fit b t) (v : Serves n b t) (e : line (Getters n) t ≡ x ∷ gs) (bytes : asked (processOf t x .place) ≤ ringIn t b .held) where
   abbrev want : ℕ
   want = asked (processOf t x .place)
 
-  -- The head getter
-  is-getter : processOf t x .place ≡ Getting n want
-  is-getter = getting n (processOf t x .place) (head-stands fit (Getters n) (nowhere-getting n) x gs e)
-
-  who-gets : Listed x t
-  who-gets = head-listed fit (Getters n) (nowhere-getting n) x gs e
-
-  abbrev ring-left : bays.Ring
-  ring-left = getOf (ringIn t b) (parcelFor t x) 0 want .ring
-
-  abbrev parcel-filled : Parcel
-  parcel-filled = getOf (ringIn t b) (parcelFor t x) 0 want .parcel
-
-  -- Its service is such a change
-  getter-served : service b x t ≡ changed b x ring-left parcel-filled t
-  unfolding service servedAs servedGetter withMoved changed
-  getter-served = ap (λ (q : Place). servedAs b x q t) is-getter
-
   -- Its parcel is empty before,
   getter-asks : (1 ≤ want) × (want ≤ 64) × (parcelFor t x .holds ≡ Nothing)
   unfolding processOf parcelFor
-  getter-asks = getter-fits (t .structures) (t .rings) (processOf t x) (parcelFor t x .holds) n want is-getter (v .settled .fits x)
+  getter-asks = getter-fits (t .structures) (t .rings) (processOf t x) (parcelFor t x .holds) n want (is-getter n b x gs t fit e bytes) (v .settled .fits x)
 
   getter-empty : parcelFor t x ≡ emptyParcel
   unfolding parcelFor
   getter-empty = kept-empty (v .settled .kept x) (getter-asks .2)
 
   -- and holds its bytes then
-  filled-kept : Kept parcel-filled
+  filled-kept : Kept (parcel-filled n b x gs t fit e bytes)
   filled-kept =
       let long : length (take want (contents (ringIn t b))) ≡ want = length-take-le want (contents (ringIn t b)) (rw (length-contents (ringIn t b)) bytes) in
       some (take want (contents (ringIn t b))) (rw long (getter-asks .0)) (rw long (getter-asks .1)) (ap (λ (y : Parcel). getOf (ringIn t b) y 0 want .parcel) getter-empty ∙ get-parcelOf (fit .good) want bytes (getter-asks .1))
 
-  -- The ring keeps its size
-  left-size : ring-left .size ≡ ringIn t b .size
-  left-size =
-      sym (ap (λ (r : bays.Ring). r .size) (changed-ring b x ring-left parcel-filled t who-gets (fit .bay) (fit .within)))
-      ∙ rw (← getter-served) (getter-turn n b x gs t fit e bytes .size)
-
+  -- Its service is such a change
   serves-getter : Serves n b (service b x t)
   serves-getter =
-      rw getter-served (serves-changed n b x ring-left parcel-filled t v fit who-gets (getter want is-getter) (get-good (fit .good) want bytes (parcelFor t x) 0 (omega (arith, fit .short x))) left-size filled-kept)
+      rw (getter-served n b x gs t fit e bytes)
+      (serves-changed n b x (ring-left n b x gs t fit e bytes) (parcel-filled n b x gs t fit e bytes) t v fit (who-gets n b x gs t fit e bytes) (getter want (is-getter n b x gs t fit e bytes))
+      (get-good (fit .good) want bytes (parcelFor t x) 0 (omega (arith, fit .short x))) (ring-size n b x gs t fit e bytes) filled-kept)
 
-module _ (n b x : ℕ) (ps : List ℕ) (t : Tables) (fit : Fit b t) (v : Serves n b t) (e : line (Putters n) t ≡ x ∷ ps) (room : ringIn t b .held + asked (processOf t x .place) ≤ ringIn t b .size) where
-  abbrev bring : ℕ
-  bring = asked (processOf t x .place)
-
-  -- The head putter
-  is-putter : processOf t x .place ≡ Putting n bring
-  is-putter = putting n (processOf t x .place) (head-stands fit (Putters n) (nowhere-putting n) x ps e)
-
-  who-puts : Listed x t
-  who-puts = head-listed fit (Putters n) (nowhere-putting n) x ps e
-
-  abbrev ring-entered : bays.Ring
-  ring-entered = putOf (ringIn t b) (parcelFor t x) 0 bring
-
-  -- Its service is such a change too
-  putter-served : service b x t ≡ changed b x ring-entered emptyParcel t
-  unfolding service servedAs servedPutter entered changed
-  putter-served = ap (λ (q : Place). servedAs b x q t) is-putter
-
-  -- The ring keeps its size
-  entered-size : ring-entered .size ≡ ringIn t b .size
-  entered-size =
-      sym (ap (λ (r : bays.Ring). r .size) (changed-ring b x ring-entered emptyParcel t who-puts (fit .bay) (fit .within)))
-      ∙ rw (← putter-served) (putter-turn n b x ps t fit e room .size)
-
-  serves-putter : Serves n b (service b x t)
-  serves-putter =
-      rw putter-served (serves-changed n b x ring-entered emptyParcel t v fit who-puts (putter bring is-putter) (put-good (fit .good) (parcelFor t x) 0 bring (fit .whole x) (omega (arith, fit .short x)) room) entered-size (none refl))
+-- The head putter's service is one too
+serves-putter : (n b x : ℕ) (ps : List ℕ) (t : Tables) → (fit : Fit b t) → Serves n b t → line (Putters n) t ≡ x ∷ ps → ringIn t b .held + asked (processOf t x .place) ≤ ringIn t b .size → Serves n b (service b x t)
+serves-putter n b x ps t fit v e room =
+    rw (putter-served n b x ps t fit e room)
+    (serves-changed n b x (ring-entered n b x ps t fit e room) emptyParcel t v fit (who-puts n b x ps t fit e room) (putter (asked (processOf t x .place)) (is-putter n b x ps t fit e room))
+    (put-good (fit .good) (parcelFor t x) 0 (asked (processOf t x .place)) (fit .whole x) (omega (arith, fit .short x)) room) (entered-size n b x ps t fit e room) (none refl))
 
 -- One service keeps it
 pub serves-service : {n b x : ℕ} {t : Tables} → Fit b t → Chosen n b t x → Serves n b t → Serves n b (service b x t)

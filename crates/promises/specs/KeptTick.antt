@@ -223,7 +223,7 @@ unfolding slower
 nobody-slowed k = refl
 
 -- A table of processes, each changed by a function that leaves nobody as it is
-mapped-at : (f : Process → Process) → f nobody ≡ nobody → (l : List Process) (x : ℕ) → numbered (map f l) x nobody ≡ f (numbered l x nobody)
+pub mapped-at : (f : Process → Process) → f nobody ≡ nobody → (l : List Process) (x : ℕ) → numbered (map f l) x nobody ≡ f (numbered l x nobody)
 unfolding numbered
 mapped-at f e l x =
     elim (test (eqb x 0)) [

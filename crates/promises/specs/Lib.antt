@@ -17,4 +17,15 @@ pub mod KeptSmall
 pub mod KeptTyped
 pub mod Run
 pub mod Turns
+pub mod RingDeeds
+pub mod Rings
+pub mod RingLines
+pub mod RingServed
+pub mod RingCalls
+pub mod RingRests
+pub mod RingStructures
+pub mod RingTransfers
+pub mod RingDeedsOf
+pub mod RingBytes
+pub mod Heads
 pub mod Bytes

@@ -59,7 +59,7 @@ counted f c (e ∷ l) = counted f (f c e) l
 
 -- ---- every state of a run is sound
 
-data-long : (q : List ℕ) → length q ≡ recordLength → length (recordOf q .bytes) ≡ 64
+pub data-long : (q : List ℕ) → length q ≡ recordLength → length (recordOf q .bytes) ≡ 64
 unfolding recordOf
 data-long q h = length-take-le 64 (drop 8 q) (omega (arith, length-drop 8 q))
 

@@ -40,10 +40,10 @@ seen-now : (n b : ℕ) (t : Tables) → Seen n b (lengthsOf t) (ringIn t b .size
 seen-now n b t = record { getters = refl; putters = refl; is-size = refl; is-held = refl; wants = λ p h. length-of t p; brings = λ p h. length-of t p }
 
 -- The head of a list is in it, and so is whoever is behind it
-has-here : (x : ℕ) (l : List ℕ) → has x (x ∷ l) ≡ true
+pub has-here : (x : ℕ) (l : List ℕ) → has x (x ∷ l) ≡ true
 has-here x l = rw (eq-eqb x x refl)
 
-has-behind : (x p : ℕ) (l : List ℕ) → has p l ≡ true → has p (x ∷ l) ≡ true
+pub has-behind : (x p : ℕ) (l : List ℕ) → has p l ≡ true → has p (x ∷ l) ≡ true
 has-behind x p l h = elim (test (eqb x p)) [ holds e ↦ rw e | fails e ↦ rw e h ]
 
 -- Only the heads' lengths count

@@ -1,0 +1,100 @@
+-- Every request does one of the deeds at ring n, and nothing else: all 23 calls, refusals, and what is no request.
+use Prim.Native.Nat.{ℕ}
+use mathlib.Core.Path.{_≡_, refl, sym, subst}
+use mathlib.Core.Bool.{false}
+use mathlib.Core.List.{List}
+use mathlib.Core.Logic.{inl, inr}
+use lib.Dec.{eqb}
+use lib.ListN.{length}
+use borrow.Author.Tests.{eqb-true, eqb-false}
+use Rattle.basics.specs.Tests.{test, holds, fails}
+use Rattle.arrivals.specs.Order.{has}
+use Rattle.tables.specs.declared.Tables.{Tables}
+use Rattle.records.specs.declared.Record.{Record}
+use Rattle.records.specs.Records.{recordLength, recordOf}
+use Rattle.calls.specs.declared.Deed.{Deed}
+use Rattle.calls.specs.declared.Deed.the-variants as deeds
+use Rattle.calls.specs.Calls.{rowOf, callNumber}
+use Rattle.refusals.specs.Refusals.{refusal}
+use Rattle.steps.specs.declared.After.{After}
+use Rattle.steps.specs.Steps.{done, replied, refused, steppedBy, stepped}
+use Rattle.sound.specs.Sound.{Settled}
+use Rattle.promises.specs.Changes.{Steady}
+use Rattle.promises.specs.KeptReady.{sound-steady}
+use Rattle.promises.specs.KeptRingsAccepted.{get-empty}
+use Rattle.promises.specs.Kept.{done-steady, call-known, sleeps-short, deletes-unused, SoundTables}
+use Rattle.promises.specs.Run.{afterBytes, event, handled-request, handled-rubbish, data-long}
+use Rattle.promises.specs.RingDeeds.{RingDeed}
+use Rattle.promises.specs.RingLines.{same-none}
+use Rattle.promises.specs.RingRests.{seen, idle-code, idle-call, same-rests, step-rests}
+use Rattle.promises.specs.RingCalls.{ringCalls, same-done}
+use Rattle.promises.specs.RingStructures.{created-deed, deleted-deed}
+use Rattle.promises.specs.RingTransfers.{put-deed, conditional-put-deed, get-deed, conditional-get-deed, reset-deed}
+
+-- ---- an accepted request
+
+module _ (n : ℕ) (r : Record) (t : Tables) (steady : Steady t) (long : length (r .bytes) ≡ 64) where
+  -- A call that is no ring's
+  quiet : (deed : Deed) → callNumber deed ≡ r .what → has (callNumber deed) ringCalls ≡ false → Settled (done deed r t .tables) → RingDeed n (seen t r (replied (done deed r t)))
+  quiet deed call none settled =
+      step-rests n t r (done deed r t) settled (idle-call n (seen t r (replied (done deed r t))) (rw (← call) none)) (same-done n deed r t steady none)
+
+  -- Each deed of the call table
+  accepted-deed : (deed : Deed) → callNumber deed ≡ r .what → Settled (done deed r t .tables) → RingDeed n (seen t r (replied (done deed r t)))
+  unfolding done
+  accepted-deed deeds.Unknown call settled = quiet deeds.Unknown call refl settled
+  accepted-deed deeds.Tick call settled = quiet deeds.Tick call refl settled
+  accepted-deed deeds.CreateProcess call settled = quiet deeds.CreateProcess call refl settled
+  accepted-deed deeds.DeleteMyself call settled = quiet deeds.DeleteMyself call refl settled
+  accepted-deed deeds.Suspend call settled = quiet deeds.Suspend call refl settled
+  accepted-deed deeds.Resume call settled = quiet deeds.Resume call refl settled
+  accepted-deed deeds.ChangePriority call settled = quiet deeds.ChangePriority call refl settled
+  accepted-deed deeds.Schedule call settled = quiet deeds.Schedule call refl settled
+  accepted-deed deeds.ProcessState call settled = quiet deeds.ProcessState call refl settled
+  accepted-deed deeds.Sleep call settled = quiet deeds.Sleep call refl settled
+  accepted-deed deeds.CreateStructure call settled = created-deed n t r steady (sym call) (r .l) (r .m) settled
+  accepted-deed deeds.DeleteStructure call settled = deleted-deed n t r steady (sym call) settled
+  accepted-deed deeds.StructureValue call settled = quiet deeds.StructureValue call refl settled
+  accepted-deed deeds.Signal call settled = quiet deeds.Signal call refl settled
+  accepted-deed deeds.ConditionalSignal call settled = quiet deeds.ConditionalSignal call refl settled
+  accepted-deed deeds.SignalAll call settled = quiet deeds.SignalAll call refl settled
+  accepted-deed deeds.Wait call settled = quiet deeds.Wait call refl settled
+  accepted-deed deeds.ConditionalWait call settled = quiet deeds.ConditionalWait call refl settled
+  accepted-deed deeds.Put call settled = put-deed n t r steady long (inl (sym call)) settled
+  accepted-deed deeds.ConditionalPut call settled = conditional-put-deed n t r steady long (inr (sym call)) settled
+  accepted-deed deeds.Get call settled = get-deed n t r steady (inl (sym call)) settled
+  accepted-deed deeds.ConditionalGet call settled = conditional-get-deed n t r steady (inr (sym call)) settled
+  accepted-deed deeds.ResetRing call settled = reset-deed n t r steady (sym call) settled
+  accepted-deed deeds.Collect call settled = quiet deeds.Collect call refl settled
+
+-- ---- any request
+
+-- "A refusal leaves the state unchanged"
+refused-deed : (n code : ℕ) (t : Tables) (r : Record) → eqb code 0 ≡ false → RingDeed n (seen t r (refused code t))
+unfolding refused
+refused-deed n code t r h = same-rests n (seen t r (refused code t)) (idle-code n (seen t r (refused code t)) h) (same-none n t)
+
+-- A request of 72 bytes, accepted or refused
+stepped-deed : (n : ℕ) (t : Tables) (r : Record) → length (r .bytes) ≡ 64 → SoundTables t → RingDeed n (seen t r (stepped t r))
+unfolding stepped steppedBy
+stepped-deed n t r long sound =
+    elim (test (eqb (refusal t r) 0)) [
+      | holds e ↦
+          (let accepted = eqb-true (refusal t r) 0 e in
+          let steady : Steady t = sound-steady t (sound .typed) (sound .sound) in
+          let deed = rowOf (r .what) .deed in
+          rw e (accepted-deed n r t steady long deed (call-known t r accepted)
+          (done-steady deed r t steady long (sleeps-short t r accepted) (deletes-unused t r accepted) (get-empty t r accepted) .settled)))
+      | fails e ↦ rw e (refused-deed n (refusal t r) t r e)
+    ]
+
+-- Any byte string
+pub ring-deed-of : (n : ℕ) (t : Tables) (q : List ℕ) → SoundTables t → RingDeed n (event t q)
+unfolding afterBytes
+ring-deed-of n t q sound =
+    elim (test (eqb (length q) recordLength)) [
+      | holds e ↦
+          (let h = eqb-true (length q) recordLength e in
+          subst (λ (a : After). RingDeed n (seen t (recordOf q) a)) (sym (handled-request t q h)) (stepped-deed n t (recordOf q) (data-long q h) sound))
+      | fails e ↦ subst (λ (a : After). RingDeed n (seen t (recordOf q) a)) (sym (handled-rubbish t q (eqb-false (length q) recordLength e))) (refused-deed n 39 t (recordOf q) refl)
+    ]
