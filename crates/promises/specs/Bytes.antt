@@ -33,7 +33,7 @@ use Rattle.kernel.specs.Laws.{one-state}
 use Rattle.kernel.proofs.Laws.{request-wrong, answer-wrong, no-state, no-sound, is-refused, is-done, lists-long, refused-step, done-code}
 use Rattle.promises.specs.Kept.{SoundTables, stepped-sound, fresh-sound}
 use Rattle.promises.specs.KeptTyped.{stepped-typed}
-use Rattle.promises.specs.Run.{handled, handled-request, handled-rubbish, afterBytes, afterAll, run, Event, event, events, bytes-sound}
+use Rattle.promises.specs.Run.{handled, handled-request, handled-rubbish, afterBytes, afterAll, run, events, codesOf, bytes-sound}
 
 -- ---- exactly one outcome: `one-outcome` says that there is no other
 
@@ -241,11 +241,6 @@ pub data Follows : List ℕ → List (List ℕ) → List ℕ → List ℕ → Ty
   called : (s s′ s″ q p p′ : List ℕ) (code : ℕ) (l : List (List ℕ)) (returned : List ℕ)
       → length p ≡ recordLength → Called s q p code s′ p′ → Follows s′ l returned s″ → Follows s (q ∷ l) (code ∷ returned) s″
 
--- The codes of these requests
-unfoldable pub codesOf : List Event → List ℕ
-codesOf [] = []
-codesOf (e ∷ l) = e .reply .what ∷ codesOf l
-
 -- Every byte string of a list is made of bytes
 abbrev pub AllBytes : List (List ℕ) → Type 0
 AllBytes l = Every Bytes l
@@ -282,7 +277,7 @@ handled-number t q =
     ]
 
 -- Every reply's number is one of document 01's, and none is 40
-pub codes-known : (t : Tables) (l : List (List ℕ)) → Every (λ code. has code numbers ≡ true) (codesOf (events t l))
+pub codes-known : (t : Tables) (l : List (List ℕ)) → Every (λ code. has code numbers ≡ true) (codesOf t l)
 unfolding events codesOf
 codes-known t [] = tt
 codes-known t (q ∷ l) = (handled-number t q, codes-known (afterBytes t q) l)
@@ -308,12 +303,12 @@ bytes-typed t q bytes typed sound =
 
 -- Following the contract over a list gives the encoding of the tables after it, and their codes
 pub bytes-agree : (t : Tables) (l : List (List ℕ)) (returned s : List ℕ) → AllBytes l → Typed t → SoundTables t → Follows (encode t) l returned s
-    → (s ≡ encode (afterAll t l)) × (returned ≡ codesOf (events t l))
+    → (s ≡ encode (afterAll t l)) × (returned ≡ codesOf t l)
 unfolding afterAll events codesOf
 bytes-agree t l returned s bytes typed sound follows = by (encode t) l returned s t bytes typed sound refl follows
   where
     by : (s₀ : List ℕ) (l : List (List ℕ)) (returned s : List ℕ) (t : Tables) → AllBytes l → Typed t → SoundTables t → s₀ ≡ encode t → Follows s₀ l returned s
-        → (s ≡ encode (afterAll t l)) × (returned ≡ codesOf (events t l))
+        → (s ≡ encode (afterAll t l)) × (returned ≡ codesOf t l)
     by s₀ [] returned s t bytes typed sound e (ended z) = unfold afterAll events codesOf in (e, refl)
     by s₀ (q ∷ l) returned s t bytes typed sound e (called a s′ b r p p′ code m cs long call follows) =
         unfold afterAll events codesOf in
@@ -331,7 +326,7 @@ accepted-ever-after s s′ (q ∷ l) returned bytes a (called z u v r p p′ cod
 -- document 01's, and 40 is never given
 pub record FreshStart (l : List (List ℕ)) (returned s : List ℕ) : Type 0 where
   pub state : s ≡ encode (run l)
-  pub replies : returned ≡ codesOf (events fresh l)
+  pub replies : returned ≡ codesOf fresh l
   pub known : Every (λ code. has code numbers ≡ true) returned
   pub never-40 : has 40 returned ≡ false
 

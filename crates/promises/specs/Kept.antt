@@ -76,11 +76,11 @@ unfolding refusal
 none-refuses t r e k h = none-applies (λ j. applies j t r) codes refl e k h
 
 -- What a test of two, or of one of two, says of each
-both-second : (a b : Bool) → both a b ≡ true → b ≡ true
+pub both-second : (a b : Bool) → both a b ≡ true → b ≡ true
 both-second true b e = e
 both-second false b e = absurd (true≢false (sym e))
 
-both-first : (a b : Bool) → both a b ≡ true → a ≡ true
+pub both-first : (a b : Bool) → both a b ≡ true → a ≡ true
 both-first true b e = refl
 both-first false b e = absurd (true≢false (sym e))
 
@@ -95,7 +95,7 @@ module _ (t : Tables) (r : Record) (accepted : refusal t r ≡ 0) where
   call-known = number-of-deed (r .what) (ltb-false 23 (r .what) (either-second (eqb (r .what) 0) (ltb 23 (r .what)) (none-refuses t r accepted 41 refl)))
 
   -- so a deed tells its call
-  call-is : (deed : Deed) → rowOf (r .what) .deed ≡ deed → r .what ≡ callNumber deed
+  pub call-is : (deed : Deed) → rowOf (r .what) .deed ≡ deed → r .what ≡ callNumber deed
   call-is deed e = sym call-known ∙ ap callNumber e
 
   -- "M milliseconds, 0 to 2,147,483,647"

@@ -292,7 +292,7 @@ listings-most (Putting n l) = omega arith
 listings-most (Asleep k) = omega arith
 
 -- Who is nowhere stands in no line
-nowhere-stands : (x : Line) → stands x Nowhere ≡ false
+pub nowhere-stands : (x : Line) → stands x Nowhere ≡ false
 unfolding stands
 nowhere-stands lines.Ready = refl
 nowhere-stands lines.Parked = refl
@@ -354,7 +354,7 @@ module _ (p priority : ℕ) (t : Tables) (steady : Steady t) (unused : Unused p 
   counted x = count-joined x p (t .order) room-is (omega (arith, steady .typed .order))
 
   -- The lines in which it does not stand are as they were
-  began-lines : (x : Line) → stands x (placeAt (replaced (t .processes) p (newcomer priority)) p) ≡ false → line x began ≡ line x t
+  pub began-lines : (x : Line) → stands x (placeAt (replaced (t .processes) p (newcomer priority)) p) ≡ false → line x began ≡ line x t
   unfolding line
   began-lines x is =
       arrives (standing x (t .processes)) (standing x (replaced (t .processes) p (newcomer priority))) p
@@ -452,7 +452,7 @@ module _ (t : Tables) (steady : Steady t) (z : t .running ≡ 0 → ⊥) where
   fewer x = count-deleted x caller (t .order) (is-listed caller (t .order) (omega (arith, was-live .once)))
 
   -- The lines in which it did not stand are as they were
-  ended-lines : (x : Line) → stands x (placeAt (t .processes) caller) ≡ false → line x ended ≡ line x t
+  pub ended-lines : (x : Line) → stands x (placeAt (t .processes) caller) ≡ false → line x ended ≡ line x t
   unfolding line
   ended-lines x was =
       stays-deleted (standing x (t .processes)) (standing x (replaced (t .processes) caller nobody)) caller

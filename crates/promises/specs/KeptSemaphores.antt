@@ -60,7 +60,7 @@ no-ring (kinds.Counting v) e = refl
 no-ring (kinds.Ring c) e = absurd (true≢false (sym e))
 
 -- and live
-semaphore-live : (kind : Kind) → isSemaphore kind ≡ true → isFree kind ≡ false
+pub semaphore-live : (kind : Kind) → isSemaphore kind ≡ true → isFree kind ≡ false
 semaphore-live kinds.Free e = absurd (true≢false (sym e))
 semaphore-live (kinds.Binary v) e = refl
 semaphore-live (kinds.Counting v) e = refl
@@ -143,12 +143,12 @@ stands-movable n (Putting m l) e = e
 stands-movable n (Asleep k) e = refl
 
 -- so each of its line
-line-movable : (n : ℕ) (t : Tables) (x : ℕ) → has x (line (Semaphore n) t) ≡ true → movable (placeAt (t .processes) x) ≡ true
+pub line-movable : (n : ℕ) (t : Tables) (x : ℕ) → has x (line (Semaphore n) t) ≡ true → movable (placeAt (t .processes) x) ≡ true
 unfolding line
 line-movable n t x h = stands-movable n (placeAt (t .processes) x) (in-line (standing (Semaphore n) (t .processes)) x (t .order) h .0)
 
 -- Whoever waits at n stands in its line
-waiting-stands : (n : ℕ) → stands (Semaphore n) (Waiting n) ≡ true
+pub waiting-stands : (n : ℕ) → stands (Semaphore n) (Waiting n) ≡ true
 unfolding stands
 waiting-stands n = eq-eqb n n refl
 
@@ -159,7 +159,7 @@ waits-in-line n x t s e =
     has-keep (standing (Semaphore n) (t .processes)) x (t .order) ∙ rw (e, waiting-stands n) (is-listed x (t .order) (omega (arith, live .once)))
 
 -- The head of a line is in it
-head-there : (n : ℕ) (t : Tables) → hasLine n t ≡ true → has (first (line (Semaphore n) t)) (line (Semaphore n) t) ≡ true
+pub head-there : (n : ℕ) (t : Tables) → hasLine n t ≡ true → has (first (line (Semaphore n) t)) (line (Semaphore n) t) ≡ true
 unfolding hasLine
 head-there n t h = ⊎-elim (λ z. absurd (eqb-false _ 0 (not-true _ h) z)) (λ k. k) (first-has (line (Semaphore n) t))
 

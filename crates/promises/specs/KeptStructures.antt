@@ -86,7 +86,7 @@ pub record Vacant (n : ℕ) (t : Tables) : Type 0 where
   pub none : Unwaited n t
 
 -- Creation's number is such a one
-free-vacant : (t : Tables) → Steady t → (freeNumber (t .structures) ≡ 0 → ⊥) → Vacant (freeNumber (t .structures)) t
+pub free-vacant : (t : Tables) → Steady t → (freeNumber (t .structures) ≡ 0 → ⊥) → Vacant (freeNumber (t .structures)) t
 free-vacant t steady z =
     let n = freeNumber (t .structures) in
     let w = number-free (t .structures) z in

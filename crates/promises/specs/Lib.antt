@@ -1,4 +1,4 @@
--- The promises: a sound state stays sound, over any list of requests.
+-- The promises: a sound state stays sound; bytes and tables agree; turns, sums and bytes over any list of requests.
 pub mod Changes
 pub mod KeptReady
 pub mod KeptSemaphores
@@ -16,7 +16,15 @@ pub mod Kept
 pub mod KeptSmall
 pub mod KeptTyped
 pub mod Run
+pub mod Bytes
 pub mod Turns
+pub mod SemaphoreDeeds
+pub mod SemaphoreDeedsKept
+pub mod SemaphoreSame
+pub mod SemaphoreShown
+pub mod SemaphoreDeedsOf
+pub mod Semaphores
+pub mod NineSignals
 pub mod RingDeeds
 pub mod Rings
 pub mod RingLines
@@ -28,4 +36,3 @@ pub mod RingTransfers
 pub mod RingDeedsOf
 pub mod RingBytes
 pub mod Heads
-pub mod Bytes

@@ -2,7 +2,7 @@
 use Prim.Native.Nat.{ℕ}
 use mathlib.Core.Path.{_≡_, refl, sym, subst}
 use mathlib.Core.Bool.{Bool, true, false, cond}
-use mathlib.Core.List.{List, [], _∷_}
+use mathlib.Core.List.{List, [], _∷_, map}
 use lib.Dec.{eqb}
 use lib.ListN.{length, take, drop}
 use lib.Seq.{length-take-le}
@@ -51,6 +51,10 @@ event t q = record { before = t; request = recordOf q; reply = handled t q .repl
 unfoldable pub events : Tables → List (List ℕ) → List Event
 events t [] = []
 events t (q ∷ l) = event t q ∷ events (afterBytes t q) l
+
+-- The codes that they are answered
+unfoldable pub codesOf : Tables → List (List ℕ) → List ℕ
+codesOf t l = map (λ (e : Event). e .reply .what) (events t l)
 
 -- What is counted over them: c so far, and each request adds its part
 unfoldable pub counted : {C : Type 0} → (C → Event → C) → C → List Event → C

@@ -1,0 +1,591 @@
+-- Every request does one of the deeds at every structure: each of the 23 calls, every refusal, and what is no request.
+use Prim.Native.Nat.{ℕ, _≤_, _<_}
+use mathlib.Core.Path.{_≡_, refl, sym, ap, subst, _∙_}
+use mathlib.Core.Bool.{true, false, not, true≢false}
+use mathlib.Core.List.{List, [], _∷_, _++_}
+use mathlib.Core.Logic.{_⊎_, inl, inr, ⊎-elim}
+use native.Mathlib.Omega.{arith}
+use lib.Dec.{eqb, leb, ltb}
+use lib.ListN.{length, drop}
+use borrow.Author.Tests.{eq-eqb, ne-eqb, eqb-true, eqb-false, ltb-true, lt-ltb}
+use Rattle.basics.specs.Tests.{test, holds, fails}
+use Rattle.arrivals.specs.Order.{count, has, first}
+use Rattle.arrivals.specs.Listed.{head-goes, is-not-listed, not-listed, one-same}
+use Rattle.arrivals.specs.Views.{count-keep-le, keep-none, has-not}
+use Rattle.tables.specs.declared.Tables.{Tables}
+use Rattle.tables.specs.declared.Structure.{Structure}
+use Rattle.tables.specs.declared.Kind.{Kind}
+use Rattle.tables.specs.declared.Kind.the-variants as kinds
+use Rattle.tables.specs.declared.Place.the-variants.{Nowhere, Waiting}
+use Rattle.tables.specs.declared.Line.the-variants.{Semaphore}
+use Rattle.tables.specs.Numbers.{isSemaphore}
+use Rattle.tables.specs.Access.{nothing, processOf, structureOf, withProcess, withStructure, withRing}
+use Rattle.tables.specs.Lines.{line, standing, inLinesOf}
+use Rattle.tables.specs.Laws.{replaced-same}
+use Rattle.answers.specs.declared.Outcome.the-variants.{Done, Waits}
+use Rattle.answers.specs.declared.Step.{Step}
+use Rattle.answers.specs.Answers.{plain, step, unmoved}
+use Rattle.ready.specs.Ready.{joins, runnerJoins, withPlace, released, letThrough, dispatched}
+use Rattle.ready.specs.Laws.{joins-enters, release-leaves}
+use Rattle.records.specs.declared.Record.{Record}
+use Rattle.records.specs.Records.{recordLength, recordOf}
+use Rattle.calls.specs.declared.Deed.{Deed}
+use Rattle.calls.specs.declared.Deed.the-variants as deeds
+use Rattle.calls.specs.Calls.{rowOf, callNumber}
+use Rattle.refusals.specs.Refusals.{both, signalsFull, isFull, codes, appliesTo, applies, refusal}
+use Rattle.refusals.specs.Laws.{given-applies}
+use Rattle.semaphores.specs.Semaphores.{kindOf, withKind, value, lowered, raised, hasLine, waitedAt, waited, conditionallyWaited, signalledAt, signalled, conditionallySignalled, allReleased, allSignalled}
+use Rattle.semaphores.specs.Laws.{no-line, released-apart, all-empties, all-keeps}
+use Rattle.processes.specs.Processes as processes
+use Rattle.structures.specs.Structures as structures
+use Rattle.bay.specs.declared.Ring as bays
+use Rattle.bay.specs.Bay.{ringOf, emptyBay}
+use Rattle.steps.specs.declared.After.{After}
+use Rattle.steps.specs.Steps.{done, repliedBy, replied, refused, steppedBy, stepped}
+use Rattle.sound.specs.Sound.{placeAt, kindAt, ValueFits, Settled}
+use Rattle.promises.specs.Changes.{known-structure, Steady, Live, is-live, Unwaited, unwaited-lines}
+use Rattle.promises.specs.KeptReady.{is-movable, runner-place, sound-steady}
+use Rattle.promises.specs.KeptSemaphores.{line-movable, head-there, waiting-stands}
+use Rattle.promises.specs.KeptRingsAccepted.{get-empty}
+use Rattle.promises.specs.Kept.{both-second, SoundTables, done-steady, none-refuses, call-known, call-is, sleeps-short, deletes-unused}
+use Rattle.promises.specs.Run.{afterBytes, Event, event, data-long, handled-request, handled-rubbish}
+use Rattle.promises.specs.Turns.{lineAfter, creates, processBegins, structureBegins}
+use Rattle.promises.specs.SemaphoreDeeds.{risen, StartsAt, DeedAt, rests, passes, joinsLine, raises, releasesHead, freesAll, begins, ends}
+use Rattle.promises.specs.SemaphoreShown.{both-none, Unasked, semaphoreCall, uncalled, unnamed, unperformed, nothing-shown, no-structure, no-process, not-created, no-newcomer, left-head, left-all, performed-shown}
+use Rattle.promises.specs.SemaphoreSame.{Same, same-none, same-then, kind-now, kind-line, no-head, place-apart, runner-apart, dispatched-same, ticked-same, created-same, deleted-same, suspended-same, resumed-same, prioritised-same, scheduled-same, stated-same, slept-same, ring-same, put-same, conditional-put-same, got-same, conditional-got-same, reset-same, collected-same, valued-same, structure-same, elsewhere-deleted, elsewhere-signalled, elsewhere-conditionally-signalled, elsewhere-all-signalled, elsewhere-waited, elsewhere-conditionally-waited}
+use Rattle.promises.specs.KeptProcesses.{free-unused}
+use Rattle.promises.specs.KeptStructures.{Vacant, free-vacant, no-lines}
+
+-- Request r to tables t, and what came of it
+abbrev pub eventOf : Tables → Record → After → Event
+eventOf t r a = record { before = t; request = r; reply = a .reply; after = a .tables }
+
+-- ---- nothing is done at n
+
+module _ (n : ℕ) (t : Tables) (r : Record) where
+  -- By a step that leaves n as it is, which asks nothing there and creates nothing
+  rests-of : (s : Step) → Settled (s .tables) → Same n t (s .tables) → Unasked n (eventOf t r (replied s)) → structureBegins n (eventOf t r (replied s)) ≡ false
+      → ((p : ℕ) → processBegins p (eventOf t r (replied s)) ≡ true → count p (line (Semaphore n) t) ≡ 0) → DeedAt n (eventOf t r (replied s))
+  unfolding replied repliedBy
+  rests-of s settled same unasked old newcomers =
+      let whole = same-then same (dispatched-same n (s .tables) settled) in
+      rests (nothing-shown n _ unasked _ _ false (whole .line-same) (whole .kind-same) old newcomers)
+
+  -- by any call but the semaphores' and the two creations,
+  quiet-of : (call : ℕ) (s : Step) → r .what ≡ call → semaphoreCall call ≡ false → eqb call 10 ≡ false → eqb call 2 ≡ false
+      → Settled (s .tables) → Same n t (s .tables) → DeedAt n (eventOf t r (replied s))
+  quiet-of call s what other structure process settled same =
+      let e = eventOf t r (replied s) in
+      rests-of s settled same (uncalled n e (rw what other)) (no-structure n e (rw what structure)) (no-newcomer e (line (Semaphore n) t) (λ p. no-process p e (rw what process)))
+
+  -- by a call that names another structure,
+  elsewhere-of : (call : ℕ) (s : Step) → r .what ≡ call → eqb call 10 ≡ false → eqb call 2 ≡ false → (n ≡ r .n → ⊥)
+      → Settled (s .tables) → Same n t (s .tables) → DeedAt n (eventOf t r (replied s))
+  elsewhere-of call s what structure process other settled same =
+      let e = eventOf t r (replied s) in
+      rests-of s settled same (unnamed n e (ne-eqb (r .n) n (λ q. other (sym q)))) (no-structure n e (rw what structure)) (no-newcomer e (line (Semaphore n) t) (λ p. no-process p e (rw what process)))
+
+  -- by a call that is answered 1,
+  unmoved-of : Settled t → DeedAt n (eventOf t r (replied (unmoved t)))
+  unfolding replied repliedBy processBegins structureBegins
+  unmoved-of settled =
+      let e = eventOf t r (replied (unmoved t)) in
+      rests-of (unmoved t) settled (same-none n t) (unperformed n e refl refl) (not-created 10 n e refl) (no-newcomer e (line (Semaphore n) t) (λ p. not-created 2 p e refl))
+
+  -- and by one that is refused
+  refused-of : (k : ℕ) → eqb k 0 ≡ false → eqb k 2 ≡ false → DeedAt n (eventOf t r (refused k t))
+  unfolding refused processBegins structureBegins
+  refused-of k a b =
+      let e = eventOf t r (refused k t) in
+      rests (nothing-shown n e (unperformed n e a b) _ _ false refl refl (not-created 10 n e a) (no-newcomer e (line (Semaphore n) t) (λ p. not-created 2 p e a)))
+
+  -- A step by its other form
+  by-step : (s u : Step) → s ≡ u → Settled (s .tables) → (Settled (u .tables) → DeedAt n (eventOf t r (replied u))) → DeedAt n (eventOf t r (replied s))
+  by-step s u same settled deed =
+      subst (λ (x : Step). DeedAt n (eventOf t r (replied x))) (sym same) (deed (subst (λ (x : Step). Settled (x .tables)) same settled))
+
+-- ---- signal, conditional signal, signal all
+
+-- A counting semaphore below 32,767 rises by 1
+raised-risen : (kind : Kind) → isFull kind ≡ false → ValueFits kind → raised kind ≡ risen kind
+raised-risen kinds.Free h f = refl
+raised-risen (kinds.Binary v) h f = refl
+raised-risen (kinds.Counting v) h f = rw (lt-ltb v 32767 (omega (arith, eqb-false v 32767 h)))
+raised-risen (kinds.Ring b) h f = refl
+
+-- What a signal does
+data Signalled (n : ℕ) (t : Tables) : Type 0 where
+  idle : signalled n t ≡ unmoved t → Signalled n t
+  raise : isSemaphore (kindOf n t) ≡ true → line (Semaphore n) t ≡ [] → signalled n t ≡ step (withKind n (raised (kindOf n t)) t) (plain Done) → Signalled n t
+  release : hasLine n t ≡ true → signalled n t ≡ step (letThrough (Semaphore n) t) (plain Done) → Signalled n t
+
+-- It is one of these
+signalled-as : (n : ℕ) (t : Tables) → Signalled n t
+unfolding signalled signalledAt
+signalled-as n t =
+    elim (test (isSemaphore (kindOf n t))) [
+      | fails e ↦ idle (rw e)
+      | holds e ↦ elim (test (hasLine n t)) [ holds h ↦ release h (rw (e, h)) | fails h ↦ raise e (no-line n t h) (rw (e, h)) ]
+    ]
+
+-- A line whose head is somebody is its head and the rest
+head-rest : (l : List ℕ) → not (eqb (first l) 0) ≡ true → l ≡ first l ∷ drop 1 l
+head-rest [] h = absurd (true≢false (sym h))
+head-rest (a ∷ l) h = refl
+
+-- The head of the line is let through
+module _ (n : ℕ) (t : Tables) (steady : Steady t) (there : hasLine n t ≡ true) where
+  -- The line, and its head
+  abbrev l : List ℕ
+  l = line (Semaphore n) t
+
+  abbrev head : ℕ
+  head = first l
+
+  -- The line is its head and the rest
+  l-is : l ≡ head ∷ drop 1 l
+  unfolding hasLine
+  l-is = head-rest l there
+
+  -- The head is a live process
+  head-live : Live head t
+  head-live = is-live head t (steady .settled) (is-movable (placeAt (t .processes) head) (line-movable n t head (head-there n t there)) .lives)
+
+  -- It stands there once
+  once : has head (drop 1 l) ≡ false
+  unfolding line
+  once =
+      is-not-listed head (drop 1 l)
+      (omega (arith, head-live .once, count-keep-le (standing (Semaphore n) (t .processes)) head (t .order), one-same head, ap (count head) l-is))
+
+  -- and leaves the rest
+  rest-stays : line (Semaphore n) (letThrough (Semaphore n) t) ≡ drop 1 l
+  unfolding letThrough
+  rest-stays = release-leaves head t (head-live .some) (head-live .known) (head-live .once) (Semaphore n) (released-apart n) ∙ head-goes head l refl
+
+  -- The value stays
+  kind-stays : structureOf (letThrough (Semaphore n) t) n .kind ≡ structureOf t n .kind
+  unfolding letThrough released joins withPlace withProcess structureOf
+  kind-stays = elim (test (eqb head 0)) [ holds z ↦ rw z | fails z ↦ rw z ]
+
+  -- It has its turn, by a signal or by a conditional signal
+  released-of : (r : Record) → r .n ≡ n → (r .what ≡ 13) ⊎ (r .what ≡ 14) → Settled (letThrough (Semaphore n) t) → DeedAt n (eventOf t r (replied (step (letThrough (Semaphore n) t) (plain Done))))
+  unfolding replied repliedBy
+  released-of r here what settled =
+      let e = eventOf t r (replied (step (letThrough (Semaphore n) t) (plain Done))) in
+      let after : Same n (letThrough (Semaphore n) t) (dispatched (letThrough (Semaphore n) t)) = dispatched-same n (letThrough (Semaphore n) t) settled in
+      let now : lineAfter (Semaphore n) e ≡ drop 1 l = after .line-same ∙ rest-stays in
+      let kind : structureOf (e .after) n .kind ≡ structureOf t n .kind = after .kind-same ∙ kind-stays in
+      releasesHead head (drop 1 l) l-is (⊎-elim
+      (λ w. performed-shown 13 0 n e (record { what = w; number = here; reply-code = refl }) refl refl (head ∷ drop 1 l) (drop 1 l) (head ∷ []) _ l-is now kind (left-head head (drop 1 l) once))
+      (λ w. performed-shown 14 0 n e (record { what = w; number = here; reply-code = refl }) refl refl (head ∷ drop 1 l) (drop 1 l) (head ∷ []) _ l-is now kind (left-head head (drop 1 l) once))
+      what)
+
+-- A signal that meets no line
+raised-of : (n : ℕ) (t : Tables) (r : Record) → Steady t → r .n ≡ n → r .what ≡ 13 → isSemaphore (kindOf n t) ≡ true → isFull (kindOf n t) ≡ false → line (Semaphore n) t ≡ []
+    → Settled (withKind n (raised (kindOf n t)) t) → DeedAt n (eventOf t r (replied (step (withKind n (raised (kindOf n t)) t) (plain Done))))
+unfolding replied repliedBy kindOf structureOf
+raised-of n t r steady here what is full empty settled =
+    let u = withKind n (raised (kindOf n t)) t in
+    let e = eventOf t r (replied (step u (plain Done))) in
+    let after : Same n u (dispatched u) = dispatched-same n u settled in
+    raises empty
+    (performed-shown 13 0 n e (record { what = what; number = here; reply-code = refl }) refl refl [] [] [] (risen (kindOf n t)) empty
+    (after .line-same ∙ kind-line n (raised (kindOf n t)) t ∙ empty)
+    (after .kind-same ∙ kind-now n (raised (kindOf n t)) t is ∙ raised-risen (kindOf n t) full (steady .settled .values n)) refl)
+
+-- Signal
+signal-of : (n : ℕ) (t : Tables) (r : Record) → Steady t → r .n ≡ n → r .what ≡ 13 → isFull (kindOf n t) ≡ false
+    → Settled (signalled n t .tables) → DeedAt n (eventOf t r (replied (signalled n t)))
+signal-of n t r steady here what full settled =
+    elim (signalled-as n t) [
+      | idle e ↦ by-step n t r _ _ e settled (unmoved-of n t r)
+      | raise is empty e ↦ by-step n t r _ _ e settled (raised-of n t r steady here what is full empty)
+      | release there e ↦ by-step n t r _ _ e settled (released-of n t steady there r here (inl what))
+    ]
+
+-- Conditional signal
+conditional-signal-of : (n : ℕ) (t : Tables) (r : Record) → Steady t → r .n ≡ n → r .what ≡ 14
+    → Settled (conditionallySignalled n t .tables) → DeedAt n (eventOf t r (replied (conditionallySignalled n t)))
+unfolding conditionallySignalled
+conditional-signal-of n t r steady here what settled =
+    elim (test (hasLine n t)) [
+      | fails h ↦ by-step n t r (conditionallySignalled n t) (unmoved t) (rw h) settled (unmoved-of n t r)
+      | holds h ↦
+          by-step n t r (conditionallySignalled n t) (signalled n t) (rw h) settled (λ after. elim (signalled-as n t) [
+            | idle e ↦ by-step n t r _ _ e after (unmoved-of n t r)
+            | raise is empty e ↦ absurd (true≢false (sym h ∙ no-head n t empty))
+            | release there e ↦ by-step n t r _ _ e after (released-of n t steady there r here (inr what))
+          ])
+    ]
+
+-- Signal all
+all-of : (n : ℕ) (t : Tables) (r : Record) → r .n ≡ n → r .what ≡ 15
+    → Settled (allSignalled n t .tables) → DeedAt n (eventOf t r (replied (allSignalled n t)))
+unfolding allSignalled allReleased replied repliedBy structureOf
+all-of n t r here what settled =
+    elim (test (isSemaphore (kindOf n t))) [
+      | fails e ↦ by-step n t r (allSignalled n t) (unmoved t) (rw e) settled (unmoved-of n t r)
+      | holds is ↦
+          let l = line (Semaphore n) t in
+          let same : allSignalled n t ≡ allReleased l t = rw is in
+          by-step n t r (allSignalled n t) (allReleased l t) same settled (λ after.
+          let u = allReleased l t .tables in
+          let e = eventOf t r (replied (allReleased l t)) in
+          let then : Same n u (dispatched u) = dispatched-same n u after in
+          freesAll (performed-shown 15 0 n e (record { what = what; number = here; reply-code = refl }) refl refl l [] l _ refl
+          (then .line-same ∙ ap (λ (x : Step). line (Semaphore n) (x .tables)) (sym same) ∙ all-empties n t is)
+          (then .kind-same ∙ ap (λ (x : Step). structureOf (x .tables) n .kind) (sym same) ∙ ap (λ (x : List Structure). kindAt x n) (all-keeps n t)) (left-all l)))
+    ]
+
+-- ---- wait, conditional wait
+
+-- What a wait does
+data Waited (n : ℕ) (t : Tables) : Type 0 where
+  idle : waited n t ≡ unmoved t → Waited n t
+  pass : isSemaphore (kindOf n t) ≡ true → 0 < value (kindOf n t) → waited n t ≡ step (withKind n (lowered (kindOf n t)) t) (plain Done) → Waited n t
+  join : (t .running ≡ 0 → ⊥) → ltb 0 (value (kindOf n t)) ≡ false → waited n t ≡ step (runnerJoins (Waiting n) t) (plain Waits) → Waited n t
+
+-- It is one of these
+waited-as : (n : ℕ) (t : Tables) → Waited n t
+unfolding waited waitedAt
+waited-as n t =
+    elim (test (eqb (t .running) 0)) [
+      | holds z ↦ idle (rw z)
+      | fails z ↦
+          elim (test (isSemaphore (kindOf n t))) [
+            | fails e ↦ idle (rw (z, e))
+            | holds e ↦
+                elim (test (ltb 0 (value (kindOf n t)))) [
+                  | holds v ↦ pass e (ltb-true 0 (value (kindOf n t)) v) (rw (z, e, v))
+                  | fails v ↦ join (eqb-false (t .running) 0 z) v (rw (z, e, v))
+                ]
+          ]
+    ]
+
+-- The value falls by 1, by a wait or by a conditional wait
+passed-of : (n : ℕ) (t : Tables) (r : Record) → r .n ≡ n → (r .what ≡ 16) ⊎ (r .what ≡ 17) → isSemaphore (kindOf n t) ≡ true → 0 < value (kindOf n t)
+    → Settled (withKind n (lowered (kindOf n t)) t) → DeedAt n (eventOf t r (replied (step (withKind n (lowered (kindOf n t)) t) (plain Done))))
+unfolding replied repliedBy kindOf structureOf
+passed-of n t r here what is above settled =
+    let u = withKind n (lowered (kindOf n t)) t in
+    let e = eventOf t r (replied (step u (plain Done))) in
+    let after : Same n u (dispatched u) = dispatched-same n u settled in
+    let l = line (Semaphore n) t in
+    let now : lineAfter (Semaphore n) e ≡ l = after .line-same ∙ kind-line n (lowered (kindOf n t)) t in
+    let kind : structureOf (e .after) n .kind ≡ lowered (kindOf n t) = after .kind-same ∙ kind-now n (lowered (kindOf n t)) t is in
+    passes (t .running) above (⊎-elim
+    (λ w. performed-shown 16 0 n e (record { what = w; number = here; reply-code = refl }) refl refl l l _ _ refl now kind refl)
+    (λ w. performed-shown 17 0 n e (record { what = w; number = here; reply-code = refl }) refl refl l l _ _ refl now kind refl)
+    what)
+
+-- A runner that joins the line stands last in it, and the value stays
+runner-enters : (n : ℕ) (t : Tables) → Steady t → (t .running ≡ 0 → ⊥) → line (Semaphore n) (runnerJoins (Waiting n) t) ≡ line (Semaphore n) t ++ (t .running ∷ [])
+unfolding runnerJoins line processOf
+runner-enters n t steady some =
+    let live : Live (t .running) t = is-live (t .running) t (steady .settled) (rw (runner-place t (steady .settled) some)) in
+    joins-enters (t .running) (Waiting n) t some (live .known) (live .once) (Semaphore n) (runner-apart n t (steady .settled)) (waiting-stands n)
+
+runner-kind : (n : ℕ) (t : Tables) → structureOf (runnerJoins (Waiting n) t) n .kind ≡ structureOf t n .kind
+unfolding runnerJoins joins withPlace withProcess structureOf
+runner-kind n t = elim (test (eqb (t .running) 0)) [ holds z ↦ rw z | fails z ↦ rw z ]
+
+-- The caller joins the line
+joined-of : (n : ℕ) (t : Tables) (r : Record) → Steady t → r .n ≡ n → r .what ≡ 16 → (t .running ≡ 0 → ⊥)
+    → Settled (runnerJoins (Waiting n) t) → DeedAt n (eventOf t r (replied (step (runnerJoins (Waiting n) t) (plain Waits))))
+unfolding replied repliedBy
+joined-of n t r steady here what some settled =
+    let p = t .running in
+    let u = runnerJoins (Waiting n) t in
+    let e = eventOf t r (replied (step u (plain Waits))) in
+    let after : Same n u (dispatched u) = dispatched-same n u settled in
+    let l = line (Semaphore n) t in
+    joinsLine p (performed-shown 16 2 n e (record { what = what; number = here; reply-code = refl }) refl refl l (l ++ (p ∷ [])) _ _ refl
+    (after .line-same ∙ runner-enters n t steady some) (after .kind-same ∙ runner-kind n t) refl)
+
+-- Wait
+wait-of : (n : ℕ) (t : Tables) (r : Record) → Steady t → r .n ≡ n → r .what ≡ 16 → Settled (waited n t .tables) → DeedAt n (eventOf t r (replied (waited n t)))
+wait-of n t r steady here what settled =
+    elim (waited-as n t) [
+      | idle e ↦ by-step n t r _ _ e settled (unmoved-of n t r)
+      | pass is above e ↦ by-step n t r _ _ e settled (passed-of n t r here (inl what) is above)
+      | join some none e ↦ by-step n t r _ _ e settled (joined-of n t r steady here what some)
+    ]
+
+-- Conditional wait
+conditional-wait-of : (n : ℕ) (t : Tables) (r : Record) → Steady t → r .n ≡ n → r .what ≡ 17
+    → Settled (conditionallyWaited n t .tables) → DeedAt n (eventOf t r (replied (conditionallyWaited n t)))
+unfolding conditionallyWaited
+conditional-wait-of n t r steady here what settled =
+    elim (test (ltb 0 (value (kindOf n t)))) [
+      | fails v ↦ by-step n t r (conditionallyWaited n t) (unmoved t) (rw v) settled (unmoved-of n t r)
+      | holds v ↦
+          by-step n t r (conditionallyWaited n t) (waited n t) (rw v) settled (λ after. elim (waited-as n t) [
+            | idle e ↦ by-step n t r _ _ e after (unmoved-of n t r)
+            | pass is above e ↦ by-step n t r _ _ e after (passed-of n t r here (inr what) is above)
+            | join some none e ↦ absurd (true≢false (sym v ∙ none))
+          ])
+    ]
+
+-- ---- creation and deletion
+
+-- A new process stood in no line
+new-apart : (n priority : ℕ) (t : Tables) (r : Record) (p : ℕ) → processBegins p (eventOf t r (replied (processes.created priority t))) ≡ true → standing (Semaphore n) (t .processes) p ≡ false
+unfolding processBegins creates replied repliedBy processes.created processes.createdAs
+new-apart n priority t r p h =
+    let m = processes.freeProcess t in
+    elim (test (eqb m 0)) [
+      | holds z ↦ absurd (true≢false (sym (rw (z, both-none (eqb (r .what) 2)) at h)))
+      | fails z ↦ rw (← eqb-true m p (both-second (eqb (r .what) 2) (eqb m p) (rw z at h))) (place-apart n t m Nowhere (free-unused t (eqb-false m 0 z) .nowhere) refl)
+    ]
+
+-- Create process: no structure is touched
+create-process-of : (n : ℕ) (t : Tables) (r : Record) → Steady t → r .what ≡ 2 → Settled (processes.created (r .l) t .tables) → DeedAt n (eventOf t r (replied (processes.created (r .l) t)))
+unfolding line
+create-process-of n t r steady what settled =
+    let e = eventOf t r (replied (processes.created (r .l) t)) in
+    rests-of n t r (processes.created (r .l) t) settled (created-same n (r .l) t steady) (uncalled n e (rw what)) (no-structure n e (rw what))
+    (λ p h. not-listed p (line (Semaphore n) t) (has-not (standing (Semaphore n) (t .processes)) p (t .order) (new-apart n (r .l) t r p h)))
+
+-- What creation of a structure does: the lowest free number has this kind, in tables that differ at most in a bay
+data Created (kind amount : ℕ) (t : Tables) : Type 0 where
+  idle : structures.created kind amount t ≡ unmoved t → Created kind amount t
+  new : (k : Kind) (u : Tables) → (structures.freeNumber (t .structures) ≡ 0 → ⊥) → StartsAt amount k → ((n : ℕ) → Same n t u) → u .structures ≡ t .structures
+      → structures.created kind amount t ≡ structures.numberedAs (structures.freeNumber (t .structures)) k u → Created kind amount t
+
+module _ (kind amount : ℕ) (t : Tables) where
+  -- The number, and a ring's bay
+  abbrev lowest : ℕ
+  lowest = structures.freeNumber (t .structures)
+
+  abbrev bay : ℕ
+  bay = structures.freeBay (t .structures)
+
+  -- A semaphore, where there is a number
+  semaphore-as : (k : Kind) → StartsAt amount k → structures.created kind amount t ≡ structures.createdSemaphore lowest k t → Created kind amount t
+  unfolding structures.createdSemaphore
+  semaphore-as k start e =
+      elim (test (eqb lowest 0)) [
+        | holds z ↦ idle (e ∙ rw z)
+        | fails z ↦ new k t (eqb-false lowest 0 z) start (λ m. same-none m t) refl (e ∙ rw z)
+      ]
+
+  -- A ring, where there is a number and a bay
+  ring-as : structures.created kind amount t ≡ structures.createdRing lowest bay amount t → Created kind amount t
+  unfolding structures.createdRing withRing
+  ring-as e =
+      let ring = ringOf 0 amount [] in
+      elim (test (eqb lowest 0)) [
+        | holds z ↦ idle (e ∙ rw z)
+        | fails z ↦
+            elim (test (eqb bay 0)) [
+              | holds y ↦ idle (e ∙ rw (z, y))
+              | fails y ↦ new (kinds.Ring bay) (withRing t bay ring) (eqb-false lowest 0 z) tt (λ m. ring-same m bay ring t t (same-none m t)) refl (e ∙ rw (z, y))
+            ]
+      ]
+
+  -- Kind 3, of a size of 1 to 256
+  ring-sized : eqb kind 1 ≡ false → eqb kind 2 ≡ false → eqb kind 3 ≡ true → Created kind amount t
+  unfolding structures.created
+  ring-sized a d c =
+      elim (test (eqb amount 0)) [
+        | holds f ↦ idle (rw (a, d, c, f))
+        | fails f ↦ elim (test (leb amount 256)) [ holds g ↦ ring-as (rw (a, d, c, f, g)) | fails g ↦ idle (rw (a, d, c, f, g)) ]
+      ]
+
+  -- Kind 2, up to 32,767, and kind 3
+  other-as : eqb kind 1 ≡ false → Created kind amount t
+  unfolding structures.created
+  other-as a =
+      elim (test (eqb kind 2)) [
+        | holds d ↦ elim (test (leb amount 32767)) [ holds c ↦ semaphore-as (kinds.Counting amount) refl (rw (a, d, c)) | fails c ↦ idle (rw (a, d, c)) ]
+        | fails d ↦ elim (test (eqb kind 3)) [ holds c ↦ ring-sized a d c | fails c ↦ idle (rw (a, d, c)) ]
+      ]
+
+  -- Kind 1, 0 or 1; or another kind
+  created-as : Created kind amount t
+  unfolding structures.created
+  created-as =
+      elim (test (eqb kind 1)) [
+        | holds a ↦ elim (test (leb amount 1)) [ holds c ↦ semaphore-as (kinds.Binary amount) refl (rw (a, c)) | fails c ↦ idle (rw (a, c)) ]
+        | fails a ↦ other-as a
+      ]
+
+-- Nobody waits at a structure, so its line is empty
+unwaited-empty : (n : ℕ) (t : Tables) → Unwaited n t → line (Semaphore n) t ≡ []
+unfolding Unwaited line
+unwaited-empty n t none = keep-none (standing (Semaphore n) (t .processes)) (t .order) (λ y h. unwaited-lines n (placeAt (t .processes) y) (none y) .2)
+
+-- A structure of another kind: every line stays, and it has the kind
+structure-line : (n m : ℕ) (kind : Kind) (t : Tables) → line (Semaphore n) (withStructure t m (record { kind = kind })) ≡ line (Semaphore n) t
+unfolding withStructure line
+structure-line n m kind t = refl
+
+structure-now : (m n : ℕ) (kind : Kind) (t : Tables) → m ≡ n → (m ≡ 0 → ⊥) → m ≤ length (t .structures) → structureOf (withStructure t m (record { kind = kind })) n .kind ≡ kind
+unfolding withStructure structureOf
+structure-now m n kind t here some known = rw (← here) (ap (λ (s : Structure). s .kind) (replaced-same (t .structures) m (record { kind = kind }) nothing some known))
+
+-- The new structure, and every other one
+numbered-of : (n : ℕ) (t u : Tables) (r : Record) (k : Kind) → Steady t → r .what ≡ 10 → (structures.freeNumber (t .structures) ≡ 0 → ⊥) → StartsAt (r .m) k
+    → ((m : ℕ) → Same m t u) → u .structures ≡ t .structures → Settled (structures.numberedAs (structures.freeNumber (t .structures)) k u .tables)
+    → DeedAt n (eventOf t r (replied (structures.numberedAs (structures.freeNumber (t .structures)) k u)))
+unfolding structures.numberedAs replied repliedBy structureBegins creates
+numbered-of n t u r k steady what some start same kept settled =
+    let m = structures.freeNumber (t .structures) in
+    let s = structures.numberedAs m k u in
+    let e = eventOf t r (replied s) in
+    let none : (p : ℕ) → processBegins p e ≡ false = λ p. no-process p e (rw what) in
+    let after = dispatched-same n (s .tables) settled in
+    elim (test (eqb m n)) [
+      | fails q ↦
+          rests-of n t r s settled (same-then (same n) (structure-same n m (record { kind = k }) u (λ x. eqb-false m n q (sym x)))) (uncalled n e (rw what))
+          (rw (what, q)) (no-newcomer e (line (Semaphore n) t) none)
+      | holds q ↦
+          let v : Vacant m t = free-vacant t steady some in
+          let here : m ≡ n = eqb-true m n q in
+          let empty : line (Semaphore n) t ≡ [] = unwaited-empty n t (subst (λ (x : ℕ). Unwaited x t) here (v .none)) in
+          begins k start empty (nothing-shown n e (uncalled n e (rw what)) [] k true
+          (after .line-same ∙ structure-line n m k u ∙ same n .line-same ∙ empty)
+          (after .kind-same ∙ structure-now m n k u here (v .some) (rw kept (v .known)))
+          (rw (what, q)) (no-newcomer e [] none))
+    ]
+
+-- Create structure
+create-structure-of : (n : ℕ) (t : Tables) (r : Record) → Steady t → r .what ≡ 10 → Settled (structures.created (r .l) (r .m) t .tables)
+    → DeedAt n (eventOf t r (replied (structures.created (r .l) (r .m) t)))
+create-structure-of n t r steady what settled =
+    elim (created-as (r .l) (r .m) t) [
+      | idle e ↦ by-step n t r _ _ e settled (unmoved-of n t r)
+      | new k u some start same kept e ↦ by-step n t r _ _ e settled (numbered-of n t u r k steady what some start same kept)
+    ]
+
+-- Structure n is free, and nobody stood in its line
+ended-of : (n : ℕ) (t u : Tables) (r : Record) → r .what ≡ 11 → line (Semaphore n) t ≡ [] → line (Semaphore n) u ≡ line (Semaphore n) t → structureOf u n .kind ≡ kinds.Free
+    → Settled u → DeedAt n (eventOf t r (replied (step u (plain Done))))
+unfolding replied repliedBy
+ended-of n t u r what empty same free settled =
+    let e = eventOf t r (replied (step u (plain Done))) in
+    let after = dispatched-same n u settled in
+    ends empty (nothing-shown n e (uncalled n e (rw what)) [] kinds.Free false (after .line-same ∙ same ∙ empty) (after .kind-same ∙ free)
+    (no-structure n e (rw what)) (no-newcomer e [] (λ p. no-process p e (rw what))))
+
+-- A ring in its bay changes no line and no kind
+bay-line : (n b : ℕ) (ring : bays.Ring) (t : Tables) → line (Semaphore n) (withRing t b ring) ≡ line (Semaphore n) t
+bay-line n b ring t = ring-same n b ring t t (same-none n t) .line-same
+
+bay-kind : (n b : ℕ) (ring : bays.Ring) (t : Tables) → structureOf (withRing t b ring) n .kind ≡ structureOf t n .kind
+bay-kind n b ring t = ring-same n b ring t t (same-none n t) .kind-same
+
+-- Delete, by the kind that structure n has
+delete-at : (n : ℕ) (t : Tables) (r : Record) (kind : Kind) → Settled t → r .what ≡ 11 → line (Semaphore n) t ≡ [] → structureOf t n .kind ≡ kind
+    → Settled (structures.deletedAt n t kind .tables) → DeedAt n (eventOf t r (replied (structures.deletedAt n t kind)))
+unfolding structures.deletedAt structureOf
+delete-at n t r kinds.Free before what empty is settled = unmoved-of n t r before
+delete-at n t r (kinds.Binary v) before what empty is settled =
+    let here = known-structure n t (ap structures.isFree is) in
+    ended-of n t (withStructure t n nothing) r what empty (structure-line n n kinds.Free t) (structure-now n n kinds.Free t refl (here .0) (here .1)) settled
+delete-at n t r (kinds.Counting v) before what empty is settled =
+    let here = known-structure n t (ap structures.isFree is) in
+    ended-of n t (withStructure t n nothing) r what empty (structure-line n n kinds.Free t) (structure-now n n kinds.Free t refl (here .0) (here .1)) settled
+delete-at n t r (kinds.Ring b) before what empty is settled =
+    let here = known-structure n t (ap structures.isFree is) in
+    let u = withStructure t n nothing in
+    ended-of n t (withRing u b emptyBay) r what empty (bay-line n b emptyBay u ∙ structure-line n n kinds.Free t)
+    (bay-kind n b emptyBay u ∙ structure-now n n kinds.Free t refl (here .0) (here .1)) settled
+
+-- Delete structure: nobody is in its lines, or 51 would apply
+delete-of : (n : ℕ) (t : Tables) (r : Record) → Steady t → r .what ≡ 11 → inLinesOf n t ≡ 0 → Settled (structures.deleted n t .tables)
+    → DeedAt n (eventOf t r (replied (structures.deleted n t)))
+unfolding structures.deleted
+delete-of n t r steady what none settled =
+    delete-at n t r (structureOf t n .kind) (steady .settled) what (unwaited-empty n t (no-lines n t (steady .settled) none)) refl settled
+
+-- ---- every accepted request
+
+-- At the structure that it names, or elsewhere
+here-or-elsewhere : (n : ℕ) (t : Tables) (r : Record) (call : ℕ) (f : ℕ → Step) → r .what ≡ call → eqb call 10 ≡ false → eqb call 2 ≡ false
+    → ((m : ℕ) → r .n ≡ m → Settled (f m .tables) → DeedAt m (eventOf t r (replied (f m))))
+    → ((m : ℕ) → (n ≡ m → ⊥) → Same n t (f m .tables)) → Settled (f (r .n) .tables) → DeedAt n (eventOf t r (replied (f (r .n))))
+here-or-elsewhere n t r call f what structure process here elsewhere settled =
+    elim (test (eqb (r .n) n)) [
+      | holds q ↦ subst (λ (m : ℕ). DeedAt m (eventOf t r (replied (f (r .n))))) (eqb-true (r .n) n q) (here (r .n) refl settled)
+      | fails q ↦ elsewhere-of n t r call (f (r .n)) what structure process (λ x. eqb-false (r .n) n q (sym x)) settled (elsewhere (r .n) (λ x. eqb-false (r .n) n q (sym x)))
+    ]
+
+-- What the request does, by its deed: accepted, a signal met no counting semaphore at 32,767, and nobody is in a line of a structure that is deleted
+done-of : (n : ℕ) (t : Tables) (r : Record) (deed : Deed) → Steady t → r .what ≡ callNumber deed
+    → (deed ≡ deeds.Signal → isFull (kindOf (r .n) t) ≡ false) → (deed ≡ deeds.DeleteStructure → inLinesOf (r .n) t ≡ 0)
+    → Settled (done deed r t .tables) → DeedAt n (eventOf t r (replied (done deed r t)))
+unfolding done
+done-of n t r deeds.Unknown steady what signals deletes settled = unmoved-of n t r settled
+done-of n t r deeds.Tick steady what signals deletes settled = quiet-of n t r 1 _ what refl refl refl settled (ticked-same n 1 t)
+done-of n t r deeds.CreateProcess steady what signals deletes settled = create-process-of n t r steady what settled
+done-of n t r deeds.DeleteMyself steady what signals deletes settled = quiet-of n t r 3 _ what refl refl refl settled (deleted-same n t steady)
+done-of n t r deeds.Suspend steady what signals deletes settled = quiet-of n t r 4 _ what refl refl refl settled (suspended-same n (r .n) t)
+done-of n t r deeds.Resume steady what signals deletes settled = quiet-of n t r 5 _ what refl refl refl settled (resumed-same n (r .n) t)
+done-of n t r deeds.ChangePriority steady what signals deletes settled = quiet-of n t r 6 _ what refl refl refl settled (prioritised-same n (r .n) (r .l) t)
+done-of n t r deeds.Schedule steady what signals deletes settled = quiet-of n t r 7 _ what refl refl refl settled (scheduled-same n t (steady .settled))
+done-of n t r deeds.ProcessState steady what signals deletes settled = quiet-of n t r 8 _ what refl refl refl settled (stated-same n (r .n) t)
+done-of n t r deeds.Sleep steady what signals deletes settled = quiet-of n t r 9 _ what refl refl refl settled (slept-same n (r .m) t (steady .settled))
+done-of n t r deeds.CreateStructure steady what signals deletes settled = create-structure-of n t r steady what settled
+done-of n t r deeds.DeleteStructure steady what signals deletes settled =
+    here-or-elsewhere n t r 11 (λ m. structures.deleted m t) what refl refl (λ m here. delete-of m t r steady what (rw (← here) (deletes refl))) (λ m. elsewhere-deleted n m t) settled
+done-of n t r deeds.StructureValue steady what signals deletes settled = quiet-of n t r 12 _ what refl refl refl settled (valued-same n (r .n) t)
+done-of n t r deeds.Signal steady what signals deletes settled =
+    here-or-elsewhere n t r 13 (λ m. signalled m t) what refl refl (λ m here. signal-of m t r steady here what (rw (← here) (signals refl))) (λ m. elsewhere-signalled n m t) settled
+done-of n t r deeds.ConditionalSignal steady what signals deletes settled =
+    here-or-elsewhere n t r 14 (λ m. conditionallySignalled m t) what refl refl (λ m here. conditional-signal-of m t r steady here what) (λ m. elsewhere-conditionally-signalled n m t) settled
+done-of n t r deeds.SignalAll steady what signals deletes settled =
+    here-or-elsewhere n t r 15 (λ m. allSignalled m t) what refl refl (λ m here. all-of m t r here what) (λ m. elsewhere-all-signalled n m t) settled
+done-of n t r deeds.Wait steady what signals deletes settled =
+    here-or-elsewhere n t r 16 (λ m. waited m t) what refl refl (λ m here. wait-of m t r steady here what) (λ m. elsewhere-waited n m t (steady .settled)) settled
+done-of n t r deeds.ConditionalWait steady what signals deletes settled =
+    here-or-elsewhere n t r 17 (λ m. conditionallyWaited m t) what refl refl (λ m here. conditional-wait-of m t r steady here what) (λ m. elsewhere-conditionally-waited n m t (steady .settled)) settled
+done-of n t r deeds.Put steady what signals deletes settled = quiet-of n t r 18 _ what refl refl refl settled (put-same n (r .n) (r .l) (r .bytes) t (steady .settled))
+done-of n t r deeds.ConditionalPut steady what signals deletes settled = quiet-of n t r 19 _ what refl refl refl settled (conditional-put-same n (r .n) (r .l) (r .bytes) t)
+done-of n t r deeds.Get steady what signals deletes settled = quiet-of n t r 20 _ what refl refl refl settled (got-same n (r .n) (r .l) t (steady .settled))
+done-of n t r deeds.ConditionalGet steady what signals deletes settled = quiet-of n t r 21 _ what refl refl refl settled (conditional-got-same n (r .n) (r .l) t)
+done-of n t r deeds.ResetRing steady what signals deletes settled = quiet-of n t r 22 _ what refl refl refl settled (reset-same n (r .n) t)
+done-of n t r deeds.Collect steady what signals deletes settled = quiet-of n t r 23 _ what refl refl refl settled (collected-same n t)
+
+-- ---- every request
+
+-- 50 applies to a signal of a counting semaphore at 32,767, so an accepted one met none
+signals-below : (t : Tables) (r : Record) → refusal t r ≡ 0 → rowOf (r .what) .deed ≡ deeds.Signal → isFull (kindOf (r .n) t) ≡ false
+unfolding applies appliesTo signalsFull kindOf
+signals-below t r accepted e =
+    let no : both (eqb (r .what) 13) (isFull (structureOf t (r .n) .kind)) ≡ false = none-refuses t r accepted 50 refl in
+    rw (eq-eqb (r .what) 13 (call-is t r accepted deeds.Signal e)) at no
+
+-- No refusal is given the number 2
+not-2 : (t : Tables) (r : Record) → refusal t r ≡ 2 → ⊥
+unfolding refusal applies appliesTo
+not-2 t r e =
+    let given : applies (refusal t r) t r ≡ true = given-applies (λ k. applies k t r) codes (λ z. let y : _≡_ {A = ℕ} 0 2 = sym z ∙ e in omega arith) in
+    true≢false (sym (rw e at given))
+
+-- A request of 72 bytes
+stepped-of : (n : ℕ) (t : Tables) (r : Record) → length (r .bytes) ≡ 64 → SoundTables t → DeedAt n (eventOf t r (stepped t r))
+unfolding stepped steppedBy
+stepped-of n t r long sound =
+    let steady : Steady t = sound-steady t (sound .typed) (sound .sound) in
+    let deed = rowOf (r .what) .deed in
+    elim (test (eqb (refusal t r) 0)) [
+      | fails k ↦ rw k (refused-of n t r (refusal t r) k (ne-eqb (refusal t r) 2 (not-2 t r)))
+      | holds k ↦
+          let accepted = eqb-true (refusal t r) 0 k in
+          rw k (done-of n t r deed steady (sym (call-known t r accepted)) (signals-below t r accepted) (deletes-unused t r accepted)
+          (done-steady deed r t steady long (sleeps-short t r accepted) (deletes-unused t r accepted) (get-empty t r accepted) .settled))
+    ]
+
+-- Every byte string does one of the deeds at every structure
+pub deed-of : (n : ℕ) (t : Tables) (q : List ℕ) → SoundTables t → DeedAt n (event t q)
+unfolding afterBytes
+deed-of n t q sound =
+    elim (test (eqb (length q) recordLength)) [
+      | holds e ↦
+          let long = eqb-true (length q) recordLength e in
+          subst (λ (a : After). DeedAt n (eventOf t (recordOf q) a)) (sym (handled-request t q long)) (stepped-of n t (recordOf q) (data-long q long) sound)
+      | fails e ↦
+          subst (λ (a : After). DeedAt n (eventOf t (recordOf q) a)) (sym (handled-rubbish t q (eqb-false (length q) recordLength e))) (refused-of n t (recordOf q) 39 refl refl)
+    ]
