@@ -20,6 +20,9 @@ pub mod Bytes
 pub mod Turns
 pub mod SemaphoreDeeds
 pub mod SemaphoreDeedsKept
+pub mod LineSame
+pub mod LineCalls
+pub mod Answered
 pub mod SemaphoreSame
 pub mod SemaphoreShown
 pub mod SemaphoreDeedsOf

@@ -20,7 +20,7 @@ use Rattle.tables.specs.declared.Place.the-variants.{Nowhere, Waiting}
 use Rattle.tables.specs.declared.Line.the-variants.{Semaphore}
 use Rattle.tables.specs.Numbers.{isSemaphore}
 use Rattle.tables.specs.Access.{nothing, processOf, structureOf, withProcess, withStructure, withRing}
-use Rattle.tables.specs.Lines.{line, standing, inLinesOf}
+use Rattle.tables.specs.Lines.{line, stands, standing, inLinesOf}
 use Rattle.tables.specs.Laws.{replaced-same}
 use Rattle.answers.specs.declared.Outcome.the-variants.{Done, Waits}
 use Rattle.answers.specs.declared.Step.{Step}
@@ -51,58 +51,52 @@ use Rattle.promises.specs.Kept.{both-second, SoundTables, done-steady, n
 use Rattle.promises.specs.Run.{afterBytes, Event, event, data-long, handled-request, handled-rubbish}
 use Rattle.promises.specs.Turns.{lineAfter, creates, processBegins, structureBegins}
 use Rattle.promises.specs.SemaphoreDeeds.{risen, StartsAt, DeedAt, rests, passes, joinsLine, raises, releasesHead, freesAll, begins, ends}
-use Rattle.promises.specs.SemaphoreShown.{both-none, Unasked, semaphoreCall, uncalled, unnamed, unperformed, nothing-shown, no-structure, no-process, not-created, no-newcomer, left-head, left-all, performed-shown}
-use Rattle.promises.specs.SemaphoreSame.{Same, same-none, same-then, kind-now, kind-line, no-head, place-apart, runner-apart, dispatched-same, ticked-same, created-same, deleted-same, suspended-same, resumed-same, prioritised-same, scheduled-same, stated-same, slept-same, ring-same, put-same, conditional-put-same, got-same, conditional-got-same, reset-same, collected-same, valued-same, structure-same, elsewhere-deleted, elsewhere-signalled, elsewhere-conditionally-signalled, elsewhere-all-signalled, elsewhere-waited, elsewhere-conditionally-waited}
-use Rattle.promises.specs.KeptProcesses.{free-unused}
+use Rattle.promises.specs.Answered.{seen, both-none, not-among, not-called, not-created}
+use Rattle.promises.specs.LineCalls.{semaphoreCalls}
+use Rattle.promises.specs.SemaphoreShown.{Unasked, uncalled, unnamed, unperformed, nothing-shown, no-newcomer, left-head, left-all, performed-shown}
+use Rattle.promises.specs.SemaphoreSame.{Same, same-none, same-then, kind-now, kind-line, no-head, dispatched-same, ring-same, done-same, structure-same, elsewhere-deleted}
+use Rattle.promises.specs.KeptProcesses.{nowhere-stands, free-unused}
 use Rattle.promises.specs.KeptStructures.{Vacant, free-vacant, no-lines}
-
--- Request r to tables t, and what came of it
-abbrev pub eventOf : Tables → Record → After → Event
-eventOf t r a = record { before = t; request = r; reply = a .reply; after = a .tables }
 
 -- ---- nothing is done at n
 
 module _ (n : ℕ) (t : Tables) (r : Record) where
   -- By a step that leaves n as it is, which asks nothing there and creates nothing
-  rests-of : (s : Step) → Settled (s .tables) → Same n t (s .tables) → Unasked n (eventOf t r (replied s)) → structureBegins n (eventOf t r (replied s)) ≡ false
-      → ((p : ℕ) → processBegins p (eventOf t r (replied s)) ≡ true → count p (line (Semaphore n) t) ≡ 0) → DeedAt n (eventOf t r (replied s))
+  rests-of : (s : Step) → Settled (s .tables) → Same n t (s .tables) → Unasked n (seen t r (replied s)) → structureBegins n (seen t r (replied s)) ≡ false
+      → ((p : ℕ) → processBegins p (seen t r (replied s)) ≡ true → count p (line (Semaphore n) t) ≡ 0) → DeedAt n (seen t r (replied s))
   unfolding replied repliedBy
   rests-of s settled same unasked old newcomers =
       let whole = same-then same (dispatched-same n (s .tables) settled) in
       rests (nothing-shown n _ unasked _ _ false (whole .line-same) (whole .kind-same) old newcomers)
 
-  -- by any call but the semaphores' and the two creations,
-  quiet-of : (call : ℕ) (s : Step) → r .what ≡ call → semaphoreCall call ≡ false → eqb call 10 ≡ false → eqb call 2 ≡ false
-      → Settled (s .tables) → Same n t (s .tables) → DeedAt n (eventOf t r (replied s))
-  quiet-of call s what other structure process settled same =
-      let e = eventOf t r (replied s) in
-      rests-of s settled same (uncalled n e (rw what other)) (no-structure n e (rw what structure)) (no-newcomer e (line (Semaphore n) t) (λ p. no-process p e (rw what process)))
-
-  -- by a call that names another structure,
-  elsewhere-of : (call : ℕ) (s : Step) → r .what ≡ call → eqb call 10 ≡ false → eqb call 2 ≡ false → (n ≡ r .n → ⊥)
-      → Settled (s .tables) → Same n t (s .tables) → DeedAt n (eventOf t r (replied s))
-  elsewhere-of call s what structure process other settled same =
-      let e = eventOf t r (replied s) in
-      rests-of s settled same (unnamed n e (ne-eqb (r .n) n (λ q. other (sym q)))) (no-structure n e (rw what structure)) (no-newcomer e (line (Semaphore n) t) (λ p. no-process p e (rw what process)))
+  -- by any call but the creations and delete structure, which is none of the semaphores' or names another structure,
+  elsewhere-of : (deed : Deed) → Steady t → r .what ≡ callNumber deed → has (callNumber deed) (10 ∷ 11 ∷ []) ≡ false → eqb (callNumber deed) 2 ≡ false
+      → (has (callNumber deed) semaphoreCalls ≡ true → n ≡ r .n → ⊥) → Settled (done deed r t .tables) → DeedAt n (seen t r (replied (done deed r t)))
+  unfolding processBegins structureBegins
+  elsewhere-of deed steady what structure process other settled =
+      let e = seen t r (replied (done deed r t)) in
+      rests-of (done deed r t) settled (done-same n deed r t steady structure other)
+      (elim (test (has (callNumber deed) semaphoreCalls)) [ holds c ↦ unnamed n e (ne-eqb (r .n) n (λ q. other c (sym q))) | fails c ↦ uncalled n e (rw what c) ])
+      (not-called 10 n e (rw what (not-among (callNumber deed) (10 ∷ 11 ∷ []) structure 10 refl))) (no-newcomer e (line (Semaphore n) t) (λ p. not-called 2 p e (rw what process)))
 
   -- by a call that is answered 1,
-  unmoved-of : Settled t → DeedAt n (eventOf t r (replied (unmoved t)))
+  unmoved-of : Settled t → DeedAt n (seen t r (replied (unmoved t)))
   unfolding replied repliedBy processBegins structureBegins
   unmoved-of settled =
-      let e = eventOf t r (replied (unmoved t)) in
+      let e = seen t r (replied (unmoved t)) in
       rests-of (unmoved t) settled (same-none n t) (unperformed n e refl refl) (not-created 10 n e refl) (no-newcomer e (line (Semaphore n) t) (λ p. not-created 2 p e refl))
 
   -- and by one that is refused
-  refused-of : (k : ℕ) → eqb k 0 ≡ false → eqb k 2 ≡ false → DeedAt n (eventOf t r (refused k t))
+  refused-of : (k : ℕ) → eqb k 0 ≡ false → eqb k 2 ≡ false → DeedAt n (seen t r (refused k t))
   unfolding refused processBegins structureBegins
   refused-of k a b =
-      let e = eventOf t r (refused k t) in
+      let e = seen t r (refused k t) in
       rests (nothing-shown n e (unperformed n e a b) _ _ false refl refl (not-created 10 n e a) (no-newcomer e (line (Semaphore n) t) (λ p. not-created 2 p e a)))
 
   -- A step by its other form
-  by-step : (s u : Step) → s ≡ u → Settled (s .tables) → (Settled (u .tables) → DeedAt n (eventOf t r (replied u))) → DeedAt n (eventOf t r (replied s))
+  by-step : (s u : Step) → s ≡ u → Settled (s .tables) → (Settled (u .tables) → DeedAt n (seen t r (replied u))) → DeedAt n (seen t r (replied s))
   by-step s u same settled deed =
-      subst (λ (x : Step). DeedAt n (eventOf t r (replied x))) (sym same) (deed (subst (λ (x : Step). Settled (x .tables)) same settled))
+      subst (λ (x : Step). DeedAt n (seen t r (replied x))) (sym same) (deed (subst (λ (x : Step). Settled (x .tables)) same settled))
 
 -- ---- signal, conditional signal, signal all
 
@@ -169,10 +163,10 @@ module _ (n : ℕ) (t : Tables) (steady : Steady t) (there : hasLine n t ≡ tru
   kind-stays = elim (test (eqb head 0)) [ holds z ↦ rw z | fails z ↦ rw z ]
 
   -- It has its turn, by a signal or by a conditional signal
-  released-of : (r : Record) → r .n ≡ n → (r .what ≡ 13) ⊎ (r .what ≡ 14) → Settled (letThrough (Semaphore n) t) → DeedAt n (eventOf t r (replied (step (letThrough (Semaphore n) t) (plain Done))))
+  released-of : (r : Record) → r .n ≡ n → (r .what ≡ 13) ⊎ (r .what ≡ 14) → Settled (letThrough (Semaphore n) t) → DeedAt n (seen t r (replied (step (letThrough (Semaphore n) t) (plain Done))))
   unfolding replied repliedBy
   released-of r here what settled =
-      let e = eventOf t r (replied (step (letThrough (Semaphore n) t) (plain Done))) in
+      let e = seen t r (replied (step (letThrough (Semaphore n) t) (plain Done))) in
       let after : Same n (letThrough (Semaphore n) t) (dispatched (letThrough (Semaphore n) t)) = dispatched-same n (letThrough (Semaphore n) t) settled in
       let now : lineAfter (Semaphore n) e ≡ drop 1 l = after .line-same ∙ rest-stays in
       let kind : structureOf (e .after) n .kind ≡ structureOf t n .kind = after .kind-same ∙ kind-stays in
@@ -183,11 +177,11 @@ module _ (n : ℕ) (t : Tables) (steady : Steady t) (there : hasLine n t ≡ tru
 
 -- A signal that meets no line
 raised-of : (n : ℕ) (t : Tables) (r : Record) → Steady t → r .n ≡ n → r .what ≡ 13 → isSemaphore (kindOf n t) ≡ true → isFull (kindOf n t) ≡ false → line (Semaphore n) t ≡ []
-    → Settled (withKind n (raised (kindOf n t)) t) → DeedAt n (eventOf t r (replied (step (withKind n (raised (kindOf n t)) t) (plain Done))))
+    → Settled (withKind n (raised (kindOf n t)) t) → DeedAt n (seen t r (replied (step (withKind n (raised (kindOf n t)) t) (plain Done))))
 unfolding replied repliedBy kindOf structureOf
 raised-of n t r steady here what is full empty settled =
     let u = withKind n (raised (kindOf n t)) t in
-    let e = eventOf t r (replied (step u (plain Done))) in
+    let e = seen t r (replied (step u (plain Done))) in
     let after : Same n u (dispatched u) = dispatched-same n u settled in
     raises empty
     (performed-shown 13 0 n e (record { what = what; number = here; reply-code = refl }) refl refl [] [] [] (risen (kindOf n t)) empty
@@ -196,7 +190,7 @@ raised-of n t r steady here what is full empty settled =
 
 -- Signal
 signal-of : (n : ℕ) (t : Tables) (r : Record) → Steady t → r .n ≡ n → r .what ≡ 13 → isFull (kindOf n t) ≡ false
-    → Settled (signalled n t .tables) → DeedAt n (eventOf t r (replied (signalled n t)))
+    → Settled (signalled n t .tables) → DeedAt n (seen t r (replied (signalled n t)))
 signal-of n t r steady here what full settled =
     elim (signalled-as n t) [
       | idle e ↦ by-step n t r _ _ e settled (unmoved-of n t r)
@@ -206,7 +200,7 @@ signal-of n t r steady here what full settled =
 
 -- Conditional signal
 conditional-signal-of : (n : ℕ) (t : Tables) (r : Record) → Steady t → r .n ≡ n → r .what ≡ 14
-    → Settled (conditionallySignalled n t .tables) → DeedAt n (eventOf t r (replied (conditionallySignalled n t)))
+    → Settled (conditionallySignalled n t .tables) → DeedAt n (seen t r (replied (conditionallySignalled n t)))
 unfolding conditionallySignalled
 conditional-signal-of n t r steady here what settled =
     elim (test (hasLine n t)) [
@@ -221,7 +215,7 @@ conditional-signal-of n t r steady here what settled =
 
 -- Signal all
 all-of : (n : ℕ) (t : Tables) (r : Record) → r .n ≡ n → r .what ≡ 15
-    → Settled (allSignalled n t .tables) → DeedAt n (eventOf t r (replied (allSignalled n t)))
+    → Settled (allSignalled n t .tables) → DeedAt n (seen t r (replied (allSignalled n t)))
 unfolding allSignalled allReleased replied repliedBy structureOf
 all-of n t r here what settled =
     elim (test (isSemaphore (kindOf n t))) [
@@ -231,7 +225,7 @@ all-of n t r here what settled =
           let same : allSignalled n t ≡ allReleased l t = rw is in
           by-step n t r (allSignalled n t) (allReleased l t) same settled (λ after.
           let u = allReleased l t .tables in
-          let e = eventOf t r (replied (allReleased l t)) in
+          let e = seen t r (replied (allReleased l t)) in
           let then : Same n u (dispatched u) = dispatched-same n u after in
           freesAll (performed-shown 15 0 n e (record { what = what; number = here; reply-code = refl }) refl refl l [] l _ refl
           (then .line-same ∙ ap (λ (x : Step). line (Semaphore n) (x .tables)) (sym same) ∙ all-empties n t is)
@@ -265,11 +259,11 @@ waited-as n t =
 
 -- The value falls by 1, by a wait or by a conditional wait
 passed-of : (n : ℕ) (t : Tables) (r : Record) → r .n ≡ n → (r .what ≡ 16) ⊎ (r .what ≡ 17) → isSemaphore (kindOf n t) ≡ true → 0 < value (kindOf n t)
-    → Settled (withKind n (lowered (kindOf n t)) t) → DeedAt n (eventOf t r (replied (step (withKind n (lowered (kindOf n t)) t) (plain Done))))
+    → Settled (withKind n (lowered (kindOf n t)) t) → DeedAt n (seen t r (replied (step (withKind n (lowered (kindOf n t)) t) (plain Done))))
 unfolding replied repliedBy kindOf structureOf
 passed-of n t r here what is above settled =
     let u = withKind n (lowered (kindOf n t)) t in
-    let e = eventOf t r (replied (step u (plain Done))) in
+    let e = seen t r (replied (step u (plain Done))) in
     let after : Same n u (dispatched u) = dispatched-same n u settled in
     let l = line (Semaphore n) t in
     let now : lineAfter (Semaphore n) e ≡ l = after .line-same ∙ kind-line n (lowered (kindOf n t)) t in
@@ -281,10 +275,10 @@ passed-of n t r here what is above settled =
 
 -- A runner that joins the line stands last in it, and the value stays
 runner-enters : (n : ℕ) (t : Tables) → Steady t → (t .running ≡ 0 → ⊥) → line (Semaphore n) (runnerJoins (Waiting n) t) ≡ line (Semaphore n) t ++ (t .running ∷ [])
-unfolding runnerJoins line processOf
+unfolding runnerJoins line processOf stands
 runner-enters n t steady some =
     let live : Live (t .running) t = is-live (t .running) t (steady .settled) (rw (runner-place t (steady .settled) some)) in
-    joins-enters (t .running) (Waiting n) t some (live .known) (live .once) (Semaphore n) (runner-apart n t (steady .settled)) (waiting-stands n)
+    joins-enters (t .running) (Waiting n) t some (live .known) (live .once) (Semaphore n) (ap (stands (Semaphore n)) (runner-place t (steady .settled) some)) (waiting-stands n)
 
 runner-kind : (n : ℕ) (t : Tables) → structureOf (runnerJoins (Waiting n) t) n .kind ≡ structureOf t n .kind
 unfolding runnerJoins joins withPlace withProcess structureOf
@@ -292,19 +286,19 @@ runner-kind n t = elim (test (eqb (t .running) 0)) [ holds z ↦ rw z | fails z 
 
 -- The caller joins the line
 joined-of : (n : ℕ) (t : Tables) (r : Record) → Steady t → r .n ≡ n → r .what ≡ 16 → (t .running ≡ 0 → ⊥)
-    → Settled (runnerJoins (Waiting n) t) → DeedAt n (eventOf t r (replied (step (runnerJoins (Waiting n) t) (plain Waits))))
+    → Settled (runnerJoins (Waiting n) t) → DeedAt n (seen t r (replied (step (runnerJoins (Waiting n) t) (plain Waits))))
 unfolding replied repliedBy
 joined-of n t r steady here what some settled =
     let p = t .running in
     let u = runnerJoins (Waiting n) t in
-    let e = eventOf t r (replied (step u (plain Waits))) in
+    let e = seen t r (replied (step u (plain Waits))) in
     let after : Same n u (dispatched u) = dispatched-same n u settled in
     let l = line (Semaphore n) t in
     joinsLine p (performed-shown 16 2 n e (record { what = what; number = here; reply-code = refl }) refl refl l (l ++ (p ∷ [])) _ _ refl
     (after .line-same ∙ runner-enters n t steady some) (after .kind-same ∙ runner-kind n t) refl)
 
 -- Wait
-wait-of : (n : ℕ) (t : Tables) (r : Record) → Steady t → r .n ≡ n → r .what ≡ 16 → Settled (waited n t .tables) → DeedAt n (eventOf t r (replied (waited n t)))
+wait-of : (n : ℕ) (t : Tables) (r : Record) → Steady t → r .n ≡ n → r .what ≡ 16 → Settled (waited n t .tables) → DeedAt n (seen t r (replied (waited n t)))
 wait-of n t r steady here what settled =
     elim (waited-as n t) [
       | idle e ↦ by-step n t r _ _ e settled (unmoved-of n t r)
@@ -314,7 +308,7 @@ wait-of n t r steady here what settled =
 
 -- Conditional wait
 conditional-wait-of : (n : ℕ) (t : Tables) (r : Record) → Steady t → r .n ≡ n → r .what ≡ 17
-    → Settled (conditionallyWaited n t .tables) → DeedAt n (eventOf t r (replied (conditionallyWaited n t)))
+    → Settled (conditionallyWaited n t .tables) → DeedAt n (seen t r (replied (conditionallyWaited n t)))
 unfolding conditionallyWaited
 conditional-wait-of n t r steady here what settled =
     elim (test (ltb 0 (value (kindOf n t)))) [
@@ -330,21 +324,21 @@ conditional-wait-of n t r steady here what settled =
 -- ---- creation and deletion
 
 -- A new process stood in no line
-new-apart : (n priority : ℕ) (t : Tables) (r : Record) (p : ℕ) → processBegins p (eventOf t r (replied (processes.created priority t))) ≡ true → standing (Semaphore n) (t .processes) p ≡ false
+new-apart : (n priority : ℕ) (t : Tables) (r : Record) (p : ℕ) → processBegins p (seen t r (replied (processes.created priority t))) ≡ true → standing (Semaphore n) (t .processes) p ≡ false
 unfolding processBegins creates replied repliedBy processes.created processes.createdAs
 new-apart n priority t r p h =
     let m = processes.freeProcess t in
     elim (test (eqb m 0)) [
       | holds z ↦ absurd (true≢false (sym (rw (z, both-none (eqb (r .what) 2)) at h)))
-      | fails z ↦ rw (← eqb-true m p (both-second (eqb (r .what) 2) (eqb m p) (rw z at h))) (place-apart n t m Nowhere (free-unused t (eqb-false m 0 z) .nowhere) refl)
+      | fails z ↦ rw (← eqb-true m p (both-second (eqb (r .what) 2) (eqb m p) (rw z at h))) (ap (stands (Semaphore n)) (free-unused t (eqb-false m 0 z) .nowhere) ∙ nowhere-stands (Semaphore n))
     ]
 
 -- Create process: no structure is touched
-create-process-of : (n : ℕ) (t : Tables) (r : Record) → Steady t → r .what ≡ 2 → Settled (processes.created (r .l) t .tables) → DeedAt n (eventOf t r (replied (processes.created (r .l) t)))
-unfolding line
+create-process-of : (n : ℕ) (t : Tables) (r : Record) → Steady t → r .what ≡ 2 → Settled (processes.created (r .l) t .tables) → DeedAt n (seen t r (replied (processes.created (r .l) t)))
+unfolding line done processBegins structureBegins
 create-process-of n t r steady what settled =
-    let e = eventOf t r (replied (processes.created (r .l) t)) in
-    rests-of n t r (processes.created (r .l) t) settled (created-same n (r .l) t steady) (uncalled n e (rw what)) (no-structure n e (rw what))
+    let e = seen t r (replied (processes.created (r .l) t)) in
+    rests-of n t r (processes.created (r .l) t) settled (done-same n deeds.CreateProcess r t steady refl (λ c. absurd (true≢false (sym c)))) (uncalled n e (rw what)) (not-called 10 n e (rw what))
     (λ p h. not-listed p (line (Semaphore n) t) (has-not (standing (Semaphore n) (t .processes)) p (t .order) (new-apart n (r .l) t r p h)))
 
 -- What creation of a structure does: the lowest free number has this kind, in tables that differ at most in a bay
@@ -380,7 +374,7 @@ module _ (kind amount : ℕ) (t : Tables) where
         | fails z ↦
             elim (test (eqb bay 0)) [
               | holds y ↦ idle (e ∙ rw (z, y))
-              | fails y ↦ new (kinds.Ring bay) (withRing t bay ring) (eqb-false lowest 0 z) tt (λ m. ring-same m bay ring t t (same-none m t)) refl (e ∙ rw (z, y))
+              | fails y ↦ new (kinds.Ring bay) (withRing t bay ring) (eqb-false lowest 0 z) tt (λ m. ring-same m bay ring t) refl (e ∙ rw (z, y))
             ]
       ]
 
@@ -428,13 +422,13 @@ structure-now m n kind t here some known = rw (← here) (ap (λ (s : Structure)
 -- The new structure, and every other one
 numbered-of : (n : ℕ) (t u : Tables) (r : Record) (k : Kind) → Steady t → r .what ≡ 10 → (structures.freeNumber (t .structures) ≡ 0 → ⊥) → StartsAt (r .m) k
     → ((m : ℕ) → Same m t u) → u .structures ≡ t .structures → Settled (structures.numberedAs (structures.freeNumber (t .structures)) k u .tables)
-    → DeedAt n (eventOf t r (replied (structures.numberedAs (structures.freeNumber (t .structures)) k u)))
-unfolding structures.numberedAs replied repliedBy structureBegins creates
+    → DeedAt n (seen t r (replied (structures.numberedAs (structures.freeNumber (t .structures)) k u)))
+unfolding structures.numberedAs replied repliedBy processBegins structureBegins creates
 numbered-of n t u r k steady what some start same kept settled =
     let m = structures.freeNumber (t .structures) in
     let s = structures.numberedAs m k u in
-    let e = eventOf t r (replied s) in
-    let none : (p : ℕ) → processBegins p e ≡ false = λ p. no-process p e (rw what) in
+    let e = seen t r (replied s) in
+    let none : (p : ℕ) → processBegins p e ≡ false = λ p. not-called 2 p e (rw what) in
     let after = dispatched-same n (s .tables) settled in
     elim (test (eqb m n)) [
       | fails q ↦
@@ -452,7 +446,7 @@ numbered-of n t u r k steady what some start same kept settled =
 
 -- Create structure
 create-structure-of : (n : ℕ) (t : Tables) (r : Record) → Steady t → r .what ≡ 10 → Settled (structures.created (r .l) (r .m) t .tables)
-    → DeedAt n (eventOf t r (replied (structures.created (r .l) (r .m) t)))
+    → DeedAt n (seen t r (replied (structures.created (r .l) (r .m) t)))
 create-structure-of n t r steady what settled =
     elim (created-as (r .l) (r .m) t) [
       | idle e ↦ by-step n t r _ _ e settled (unmoved-of n t r)
@@ -461,24 +455,24 @@ create-structure-of n t r steady what settled =
 
 -- Structure n is free, and nobody stood in its line
 ended-of : (n : ℕ) (t u : Tables) (r : Record) → r .what ≡ 11 → line (Semaphore n) t ≡ [] → line (Semaphore n) u ≡ line (Semaphore n) t → structureOf u n .kind ≡ kinds.Free
-    → Settled u → DeedAt n (eventOf t r (replied (step u (plain Done))))
-unfolding replied repliedBy
+    → Settled u → DeedAt n (seen t r (replied (step u (plain Done))))
+unfolding replied repliedBy processBegins structureBegins
 ended-of n t u r what empty same free settled =
-    let e = eventOf t r (replied (step u (plain Done))) in
+    let e = seen t r (replied (step u (plain Done))) in
     let after = dispatched-same n u settled in
     ends empty (nothing-shown n e (uncalled n e (rw what)) [] kinds.Free false (after .line-same ∙ same ∙ empty) (after .kind-same ∙ free)
-    (no-structure n e (rw what)) (no-newcomer e [] (λ p. no-process p e (rw what))))
+    (not-called 10 n e (rw what)) (no-newcomer e [] (λ p. not-called 2 p e (rw what))))
 
 -- A ring in its bay changes no line and no kind
 bay-line : (n b : ℕ) (ring : bays.Ring) (t : Tables) → line (Semaphore n) (withRing t b ring) ≡ line (Semaphore n) t
-bay-line n b ring t = ring-same n b ring t t (same-none n t) .line-same
+bay-line n b ring t = ring-same n b ring t .line-same
 
 bay-kind : (n b : ℕ) (ring : bays.Ring) (t : Tables) → structureOf (withRing t b ring) n .kind ≡ structureOf t n .kind
-bay-kind n b ring t = ring-same n b ring t t (same-none n t) .kind-same
+bay-kind n b ring t = ring-same n b ring t .kind-same
 
 -- Delete, by the kind that structure n has
 delete-at : (n : ℕ) (t : Tables) (r : Record) (kind : Kind) → Settled t → r .what ≡ 11 → line (Semaphore n) t ≡ [] → structureOf t n .kind ≡ kind
-    → Settled (structures.deletedAt n t kind .tables) → DeedAt n (eventOf t r (replied (structures.deletedAt n t kind)))
+    → Settled (structures.deletedAt n t kind .tables) → DeedAt n (seen t r (replied (structures.deletedAt n t kind)))
 unfolding structures.deletedAt structureOf
 delete-at n t r kinds.Free before what empty is settled = unmoved-of n t r before
 delete-at n t r (kinds.Binary v) before what empty is settled =
@@ -495,58 +489,70 @@ delete-at n t r (kinds.Ring b) before what empty is settled =
 
 -- Delete structure: nobody is in its lines, or 51 would apply
 delete-of : (n : ℕ) (t : Tables) (r : Record) → Steady t → r .what ≡ 11 → inLinesOf n t ≡ 0 → Settled (structures.deleted n t .tables)
-    → DeedAt n (eventOf t r (replied (structures.deleted n t)))
+    → DeedAt n (seen t r (replied (structures.deleted n t)))
 unfolding structures.deleted
 delete-of n t r steady what none settled =
     delete-at n t r (structureOf t n .kind) (steady .settled) what (unwaited-empty n t (no-lines n t (steady .settled) none)) refl settled
 
 -- ---- every accepted request
 
--- At the structure that it names, or elsewhere
-here-or-elsewhere : (n : ℕ) (t : Tables) (r : Record) (call : ℕ) (f : ℕ → Step) → r .what ≡ call → eqb call 10 ≡ false → eqb call 2 ≡ false
-    → ((m : ℕ) → r .n ≡ m → Settled (f m .tables) → DeedAt m (eventOf t r (replied (f m))))
-    → ((m : ℕ) → (n ≡ m → ⊥) → Same n t (f m .tables)) → Settled (f (r .n) .tables) → DeedAt n (eventOf t r (replied (f (r .n))))
-here-or-elsewhere n t r call f what structure process here elsewhere settled =
-    elim (test (eqb (r .n) n)) [
-      | holds q ↦ subst (λ (m : ℕ). DeedAt m (eventOf t r (replied (f (r .n))))) (eqb-true (r .n) n q) (here (r .n) refl settled)
-      | fails q ↦ elsewhere-of n t r call (f (r .n)) what structure process (λ x. eqb-false (r .n) n q (sym x)) settled (elsewhere (r .n) (λ x. eqb-false (r .n) n q (sym x)))
-    ]
+module _ (n : ℕ) (t : Tables) (r : Record) (steady : Steady t) where
+  -- At the structure that it names, or elsewhere
+  here-or-elsewhere : (s : Step) → DeedAt (r .n) (seen t r (replied s)) → ((n ≡ r .n → ⊥) → DeedAt n (seen t r (replied s))) → DeedAt n (seen t r (replied s))
+  here-or-elsewhere s here elsewhere =
+      elim (test (eqb (r .n) n)) [
+        | holds q ↦ subst (λ (m : ℕ). DeedAt m (seen t r (replied s))) (eqb-true (r .n) n q) here
+        | fails q ↦ elsewhere (λ x. eqb-false (r .n) n q (sym x))
+      ]
 
--- What the request does, by its deed: accepted, a signal met no counting semaphore at 32,767, and nobody is in a line of a structure that is deleted
-done-of : (n : ℕ) (t : Tables) (r : Record) (deed : Deed) → Steady t → r .what ≡ callNumber deed
-    → (deed ≡ deeds.Signal → isFull (kindOf (r .n) t) ≡ false) → (deed ≡ deeds.DeleteStructure → inLinesOf (r .n) t ≡ 0)
-    → Settled (done deed r t .tables) → DeedAt n (eventOf t r (replied (done deed r t)))
-unfolding done
-done-of n t r deeds.Unknown steady what signals deletes settled = unmoved-of n t r settled
-done-of n t r deeds.Tick steady what signals deletes settled = quiet-of n t r 1 _ what refl refl refl settled (ticked-same n 1 t)
-done-of n t r deeds.CreateProcess steady what signals deletes settled = create-process-of n t r steady what settled
-done-of n t r deeds.DeleteMyself steady what signals deletes settled = quiet-of n t r 3 _ what refl refl refl settled (deleted-same n t steady)
-done-of n t r deeds.Suspend steady what signals deletes settled = quiet-of n t r 4 _ what refl refl refl settled (suspended-same n (r .n) t)
-done-of n t r deeds.Resume steady what signals deletes settled = quiet-of n t r 5 _ what refl refl refl settled (resumed-same n (r .n) t)
-done-of n t r deeds.ChangePriority steady what signals deletes settled = quiet-of n t r 6 _ what refl refl refl settled (prioritised-same n (r .n) (r .l) t)
-done-of n t r deeds.Schedule steady what signals deletes settled = quiet-of n t r 7 _ what refl refl refl settled (scheduled-same n t (steady .settled))
-done-of n t r deeds.ProcessState steady what signals deletes settled = quiet-of n t r 8 _ what refl refl refl settled (stated-same n (r .n) t)
-done-of n t r deeds.Sleep steady what signals deletes settled = quiet-of n t r 9 _ what refl refl refl settled (slept-same n (r .m) t (steady .settled))
-done-of n t r deeds.CreateStructure steady what signals deletes settled = create-structure-of n t r steady what settled
-done-of n t r deeds.DeleteStructure steady what signals deletes settled =
-    here-or-elsewhere n t r 11 (λ m. structures.deleted m t) what refl refl (λ m here. delete-of m t r steady what (rw (← here) (deletes refl))) (λ m. elsewhere-deleted n m t) settled
-done-of n t r deeds.StructureValue steady what signals deletes settled = quiet-of n t r 12 _ what refl refl refl settled (valued-same n (r .n) t)
-done-of n t r deeds.Signal steady what signals deletes settled =
-    here-or-elsewhere n t r 13 (λ m. signalled m t) what refl refl (λ m here. signal-of m t r steady here what (rw (← here) (signals refl))) (λ m. elsewhere-signalled n m t) settled
-done-of n t r deeds.ConditionalSignal steady what signals deletes settled =
-    here-or-elsewhere n t r 14 (λ m. conditionallySignalled m t) what refl refl (λ m here. conditional-signal-of m t r steady here what) (λ m. elsewhere-conditionally-signalled n m t) settled
-done-of n t r deeds.SignalAll steady what signals deletes settled =
-    here-or-elsewhere n t r 15 (λ m. allSignalled m t) what refl refl (λ m here. all-of m t r here what) (λ m. elsewhere-all-signalled n m t) settled
-done-of n t r deeds.Wait steady what signals deletes settled =
-    here-or-elsewhere n t r 16 (λ m. waited m t) what refl refl (λ m here. wait-of m t r steady here what) (λ m. elsewhere-waited n m t (steady .settled)) settled
-done-of n t r deeds.ConditionalWait steady what signals deletes settled =
-    here-or-elsewhere n t r 17 (λ m. conditionallyWaited m t) what refl refl (λ m here. conditional-wait-of m t r steady here what) (λ m. elsewhere-conditionally-waited n m t (steady .settled)) settled
-done-of n t r deeds.Put steady what signals deletes settled = quiet-of n t r 18 _ what refl refl refl settled (put-same n (r .n) (r .l) (r .bytes) t (steady .settled))
-done-of n t r deeds.ConditionalPut steady what signals deletes settled = quiet-of n t r 19 _ what refl refl refl settled (conditional-put-same n (r .n) (r .l) (r .bytes) t)
-done-of n t r deeds.Get steady what signals deletes settled = quiet-of n t r 20 _ what refl refl refl settled (got-same n (r .n) (r .l) t (steady .settled))
-done-of n t r deeds.ConditionalGet steady what signals deletes settled = quiet-of n t r 21 _ what refl refl refl settled (conditional-got-same n (r .n) (r .l) t)
-done-of n t r deeds.ResetRing steady what signals deletes settled = quiet-of n t r 22 _ what refl refl refl settled (reset-same n (r .n) t)
-done-of n t r deeds.Collect steady what signals deletes settled = quiet-of n t r 23 _ what refl refl refl settled (collected-same n t)
+  -- A call that is none of the semaphores'
+  quiet : (deed : Deed) → r .what ≡ callNumber deed → has (callNumber deed) (10 ∷ 11 ∷ []) ≡ false → eqb (callNumber deed) 2 ≡ false → has (callNumber deed) semaphoreCalls ≡ false
+      → Settled (done deed r t .tables) → DeedAt n (seen t r (replied (done deed r t)))
+  quiet deed what structure process none settled = elsewhere-of n t r deed steady what structure process (λ c. absurd (true≢false (sym c ∙ none))) settled
+
+  -- A semaphore's call, by what it does at the semaphore that it names
+  at-semaphore : (deed : Deed) → r .what ≡ callNumber deed → has (callNumber deed) (10 ∷ 11 ∷ []) ≡ false → eqb (callNumber deed) 2 ≡ false
+      → Settled (done deed r t .tables) → DeedAt (r .n) (seen t r (replied (done deed r t))) → DeedAt n (seen t r (replied (done deed r t)))
+  at-semaphore deed what structure process settled here =
+      here-or-elsewhere (done deed r t) here (λ other. elsewhere-of n t r deed steady what structure process (λ c. other) settled)
+
+  -- Delete structure, of another one
+  deleted-elsewhere : r .what ≡ 11 → Settled (structures.deleted (r .n) t .tables) → (n ≡ r .n → ⊥) → DeedAt n (seen t r (replied (structures.deleted (r .n) t)))
+  unfolding processBegins structureBegins
+  deleted-elsewhere what settled other =
+      let e = seen t r (replied (structures.deleted (r .n) t)) in
+      rests-of n t r (structures.deleted (r .n) t) settled (elsewhere-deleted n (r .n) t other) (uncalled n e (rw what)) (not-called 10 n e (rw what))
+      (no-newcomer e (line (Semaphore n) t) (λ p. not-called 2 p e (rw what)))
+
+  -- What the request does, by its deed: accepted, a signal met no counting semaphore at 32,767, and nobody is in a line of a structure that is deleted
+  done-of : (deed : Deed) → r .what ≡ callNumber deed → (deed ≡ deeds.Signal → isFull (kindOf (r .n) t) ≡ false) → (deed ≡ deeds.DeleteStructure → inLinesOf (r .n) t ≡ 0)
+      → Settled (done deed r t .tables) → DeedAt n (seen t r (replied (done deed r t)))
+  unfolding done
+  done-of deeds.Unknown what signals deletes settled = unmoved-of n t r settled
+  done-of deeds.Tick what signals deletes settled = quiet deeds.Tick what refl refl refl settled
+  done-of deeds.CreateProcess what signals deletes settled = create-process-of n t r steady what settled
+  done-of deeds.DeleteMyself what signals deletes settled = quiet deeds.DeleteMyself what refl refl refl settled
+  done-of deeds.Suspend what signals deletes settled = quiet deeds.Suspend what refl refl refl settled
+  done-of deeds.Resume what signals deletes settled = quiet deeds.Resume what refl refl refl settled
+  done-of deeds.ChangePriority what signals deletes settled = quiet deeds.ChangePriority what refl refl refl settled
+  done-of deeds.Schedule what signals deletes settled = quiet deeds.Schedule what refl refl refl settled
+  done-of deeds.ProcessState what signals deletes settled = quiet deeds.ProcessState what refl refl refl settled
+  done-of deeds.Sleep what signals deletes settled = quiet deeds.Sleep what refl refl refl settled
+  done-of deeds.CreateStructure what signals deletes settled = create-structure-of n t r steady what settled
+  done-of deeds.DeleteStructure what signals deletes settled =
+      here-or-elsewhere (structures.deleted (r .n) t) (delete-of (r .n) t r steady what (deletes refl) settled) (deleted-elsewhere what settled)
+  done-of deeds.StructureValue what signals deletes settled = quiet deeds.StructureValue what refl refl refl settled
+  done-of deeds.Signal what signals deletes settled = at-semaphore deeds.Signal what refl refl settled (signal-of (r .n) t r steady refl what (signals refl) settled)
+  done-of deeds.ConditionalSignal what signals deletes settled = at-semaphore deeds.ConditionalSignal what refl refl settled (conditional-signal-of (r .n) t r steady refl what settled)
+  done-of deeds.SignalAll what signals deletes settled = at-semaphore deeds.SignalAll what refl refl settled (all-of (r .n) t r refl what settled)
+  done-of deeds.Wait what signals deletes settled = at-semaphore deeds.Wait what refl refl settled (wait-of (r .n) t r steady refl what settled)
+  done-of deeds.ConditionalWait what signals deletes settled = at-semaphore deeds.ConditionalWait what refl refl settled (conditional-wait-of (r .n) t r steady refl what settled)
+  done-of deeds.Put what signals deletes settled = quiet deeds.Put what refl refl refl settled
+  done-of deeds.ConditionalPut what signals deletes settled = quiet deeds.ConditionalPut what refl refl refl settled
+  done-of deeds.Get what signals deletes settled = quiet deeds.Get what refl refl refl settled
+  done-of deeds.ConditionalGet what signals deletes settled = quiet deeds.ConditionalGet what refl refl refl settled
+  done-of deeds.ResetRing what signals deletes settled = quiet deeds.ResetRing what refl refl refl settled
+  done-of deeds.Collect what signals deletes settled = quiet deeds.Collect what refl refl refl settled
 
 -- ---- every request
 
@@ -565,7 +571,7 @@ not-2 t r e =
     true≢false (sym (rw e at given))
 
 -- A request of 72 bytes
-stepped-of : (n : ℕ) (t : Tables) (r : Record) → length (r .bytes) ≡ 64 → SoundTables t → DeedAt n (eventOf t r (stepped t r))
+stepped-of : (n : ℕ) (t : Tables) (r : Record) → length (r .bytes) ≡ 64 → SoundTables t → DeedAt n (seen t r (stepped t r))
 unfolding stepped steppedBy
 stepped-of n t r long sound =
     let steady : Steady t = sound-steady t (sound .typed) (sound .sound) in
@@ -574,7 +580,7 @@ stepped-of n t r long sound =
       | fails k ↦ rw k (refused-of n t r (refusal t r) k (ne-eqb (refusal t r) 2 (not-2 t r)))
       | holds k ↦
           let accepted = eqb-true (refusal t r) 0 k in
-          rw k (done-of n t r deed steady (sym (call-known t r accepted)) (signals-below t r accepted) (deletes-unused t r accepted)
+          rw k (done-of n t r steady deed (sym (call-known t r accepted)) (signals-below t r accepted) (deletes-unused t r accepted)
           (done-steady deed r t steady long (sleeps-short t r accepted) (deletes-unused t r accepted) (get-empty t r accepted) .settled))
     ]
 
@@ -585,7 +591,7 @@ deed-of n t q sound =
     elim (test (eqb (length q) recordLength)) [
       | holds e ↦
           let long = eqb-true (length q) recordLength e in
-          subst (λ (a : After). DeedAt n (eventOf t (recordOf q) a)) (sym (handled-request t q long)) (stepped-of n t (recordOf q) (data-long q long) sound)
+          subst (λ (a : After). DeedAt n (seen t (recordOf q) a)) (sym (handled-request t q long)) (stepped-of n t (recordOf q) (data-long q long) sound)
       | fails e ↦
-          subst (λ (a : After). DeedAt n (eventOf t (recordOf q) a)) (sym (handled-rubbish t q (eqb-false (length q) recordLength e))) (refused-of n t (recordOf q) 39 refl refl)
+          subst (λ (a : After). DeedAt n (seen t (recordOf q) a)) (sym (handled-rubbish t q (eqb-false (length q) recordLength e))) (refused-of n t (recordOf q) 39 refl refl)
     ]
