@@ -5,7 +5,7 @@ use mathlib.Core.Bool.{true, false, true≢false}
 use mathlib.Core.Logic.{_⊎_, ⊎-elim}
 use native.Mathlib.Omega.{arith}
 use lib.Dec.{eqb, ltb}
-use borrow.Author.Tests.{eq-eqb, ne-eqb, eqb-false, ltb-true, ltb-false, not-true}
+use borrow.Author.Tests.{eq-eqb, ne-eqb, eqb-true, eqb-false, ltb-true, ltb-false, not-true}
 use Rattle.basics.specs.Tests.{test, holds, fails}
 use Rattle.arrivals.specs.Order.{has, first}
 use Rattle.arrivals.specs.Listed.{is-listed}
@@ -130,17 +130,22 @@ conditionally-waited-steady n t steady = elim (test (ltb 0 (value (kindOf n t)))
 
 -- ---- signal
 
--- Who stands in a semaphore's line may be released
+-- Who stands in a semaphore's line waits there,
+pub waiting : (n : ℕ) (q : Place) → stands (Semaphore n) q ≡ true → q ≡ Waiting n
+unfolding stands
+waiting n Nowhere e = absurd (true≢false (sym e))
+waiting n Running e = absurd (true≢false (sym e))
+waiting n Ready e = absurd (true≢false (sym e))
+waiting n Parked e = absurd (true≢false (sym e))
+waiting n (Waiting m) e = ap Waiting (eqb-true m n e)
+waiting n (Getting m l) e = absurd (true≢false (sym e))
+waiting n (Putting m l) e = absurd (true≢false (sym e))
+waiting n (Asleep k) e = absurd (true≢false (sym e))
+
+-- and may be released
 stands-movable : (n : ℕ) (q : Place) → stands (Semaphore n) q ≡ true → movable q ≡ true
-unfolding stands movable
-stands-movable n Nowhere e = e
-stands-movable n Running e = e
-stands-movable n Ready e = refl
-stands-movable n Parked e = refl
-stands-movable n (Waiting m) e = refl
-stands-movable n (Getting m l) e = e
-stands-movable n (Putting m l) e = e
-stands-movable n (Asleep k) e = refl
+unfolding movable
+stands-movable n q e = ap movable (waiting n q e)
 
 -- so each of its line
 pub line-movable : (n : ℕ) (t : Tables) (x : ℕ) → has x (line (Semaphore n) t) ≡ true → movable (placeAt (t .processes) x) ≡ true

@@ -32,7 +32,6 @@ pub mod RingDeeds
 pub mod Rings
 pub mod RingLines
 pub mod RingServed
-pub mod RingCalls
 pub mod RingRests
 pub mod RingStructures
 pub mod RingTransfers

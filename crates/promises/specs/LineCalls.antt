@@ -42,10 +42,9 @@ use Rattle.rings.specs.Rings.{putThrough, putWaits, putBy, putIn, conditionally
 use Rattle.sound.specs.Sound.{placeAt, kindAt, Settled}
 use Rattle.promises.specs.Changes.{Steady}
 use Rattle.promises.specs.KeptReady.{first-has}
-use Rattle.promises.specs.KeptSemaphores.{waiting-stands}
-use Rattle.promises.specs.KeptRingsStill.{WaitsAt, getter, putter}
+use Rattle.promises.specs.KeptSemaphores.{waiting}
 use Rattle.promises.specs.KeptRingsCalls.{way-in, way-out}
-use Rattle.promises.specs.LineSame.{Part, SamePart, Off, part-none, part-then, part-beside, off-zero, off-runner, released-same, all-same, runner-joins-same, created-same, deleted-same, suspended-same, resumed-same, prioritised-same, scheduled-same, stated-same, slept-same, ticked-same}
+use Rattle.promises.specs.LineSame.{Part, SamePart, Off, part-none, part-then, part-beside, off-at, off-zero, off-runner, released-same, all-same, runner-joins-same, created-same, deleted-same, suspended-same, resumed-same, prioritised-same, scheduled-same, stated-same, slept-same, ticked-same}
 
 -- ---- semaphores
 
@@ -64,14 +63,14 @@ raised-semaphore (kinds.Ring b) = refl
 
 -- Semaphore m is none of the part's: who stands in its line stands in none of these, and its value is not told
 pub record SemaphoreApart (part : Part) (m : ℕ) (t : Tables) : Type 0 where
-  pub line-apart : (q : Place) → stands (Semaphore m) q ≡ true → Off part q
+  pub line-apart : Off part (Waiting m)
   pub value-untold : (kind : Kind) → isSemaphore (kindOf m t) ≡ true → isSemaphore kind ≡ true → part .told (withKind m kind t) ≡ part .told t
 
 module _ (part : Part) (m : ℕ) (t : Tables) (apart : SemaphoreApart part m t) where
   -- Nobody of its line stands there,
   off-line : (x : ℕ) → has x (line (Semaphore m) t) ≡ true → Off part (placeAt (t .processes) x)
   unfolding line
-  off-line x h = apart .line-apart (placeAt (t .processes) x) (in-line (standing (Semaphore m) (t .processes)) x (t .order) h .0)
+  off-line x h = off-at part t x (Waiting m) (waiting m (placeAt (t .processes) x) (in-line (standing (Semaphore m) (t .processes)) x (t .order) h .0)) (apart .line-apart)
 
   -- and its value may change
   value-same : (kind : Kind) → isSemaphore (kindOf m t) ≡ true → isSemaphore kind ≡ true → SamePart part t (withKind m kind t)
@@ -90,7 +89,7 @@ module _ (part : Part) (m : ℕ) (t : Tables) (apart : SemaphoreApart part m t) 
               | holds e ↦
                   elim (test (ltb 0 (value (kindOf m t)))) [
                     | holds v ↦ rw (z, e, v) (value-same (lowered (kindOf m t)) e (lowered-semaphore (kindOf m t) ∙ e))
-                    | fails v ↦ rw (z, e, v) (runner-joins-same part (Waiting m) t (off-runner part t s) (apart .line-apart (Waiting m) (waiting-stands m)))
+                    | fails v ↦ rw (z, e, v) (runner-joins-same part (Waiting m) t (off-runner part t s) (apart .line-apart))
                   ]
             ]
       ]
@@ -152,7 +151,8 @@ module _ (Q : ℕ → Type 0) (k : List ℕ) (size : ℕ) where
 
 -- Ring m is none of the part's: who stands in its lines stands in none of these, and what lies in its bay is not told
 pub record RingApart (part : Part) (m : ℕ) (t : Tables) : Type 0 where
-  pub lines-apart : (q : Place) → WaitsAt m q → Off part q
+  pub getters-apart : (l : ℕ) → Off part (Getting m l)
+  pub putters-apart : (l : ℕ) → Off part (Putting m l)
   pub bay-untold : (b : ℕ) → kindAt (t .structures) m ≡ kinds.Ring b → (u : Tables) (ring : bays.Ring) → u .structures ≡ t .structures → part .told (withRing u b ring) ≡ part .told u
 
 -- Who is released changes no structure
@@ -208,8 +208,8 @@ module _ (part : Part) (m : ℕ) (t : Tables) (apart : RingApart part m t) where
     serving-same ring =
         let u = withRing t b ring in
         part-then (bay-same t ring refl) (services-same (turns m b u) u refl (who-all (λ p. Off part (placeAt (t .processes) p)) _ _ _ _ _ _
-        (λ p h. apart .lines-apart (placeAt (t .processes) p) (getter _ (getting m (placeAt (t .processes) p) (in-line (standing (Getters m) (t .processes)) p (t .order) h .0))))
-        (λ p h. apart .lines-apart (placeAt (t .processes) p) (putter _ (putting m (placeAt (t .processes) p) (in-line (standing (Putters m) (t .processes)) p (t .order) h .0))))))
+        (λ p h. off-at part t p _ (getting m (placeAt (t .processes) p) (in-line (standing (Getters m) (t .processes)) p (t .order) h .0)) (apart .getters-apart _))
+        (λ p h. off-at part t p _ (putting m (placeAt (t .processes) p) (in-line (standing (Putters m) (t .processes)) p (t .order) h .0)) (apart .putters-apart _))))
 
   -- Put
   put-same : (l : ℕ) (bytes : List ℕ) → Settled t → SamePart part t (putIn m l bytes t .tables)
@@ -219,7 +219,7 @@ module _ (part : Part) (m : ℕ) (t : Tables) (apart : RingApart part m t) where
       elim (test (eqb (t .running) 0)) [
         | holds z ↦ rw z (part-none part t)
         | fails z ↦ rw z (way-in m l t (λ way. SamePart part t (putBy m l bytes way t .tables)) (part-none part t) (λ b is w room. serving-same b is _) (λ b is w new.
-            part-then (parcel-same part (t .running) parcel t) (runner-joins-same part (Putting m l) (withParcel t (t .running) parcel) (off-runner part t s) (apart .lines-apart (Putting m l) (putter l refl)))))
+            part-then (parcel-same part (t .running) parcel t) (runner-joins-same part (Putting m l) (withParcel t (t .running) parcel) (off-runner part t s) (apart .putters-apart l))))
       ]
 
   -- Conditional put
@@ -235,7 +235,7 @@ module _ (part : Part) (m : ℕ) (t : Tables) (apart : RingApart part m t) where
       elim (test (eqb (t .running) 0)) [
         | holds z ↦ rw z (part-none part t)
         | fails z ↦ rw z (way-out m l t (λ way. SamePart part t (gotBy m l way t .tables)) (part-none part t) (λ b is w enough. serving-same b is _) (λ b is w new.
-            runner-joins-same part (Getting m l) t (off-runner part t s) (apart .lines-apart (Getting m l) (getter l refl))))
+            runner-joins-same part (Getting m l) t (off-runner part t s) (apart .getters-apart l)))
       ]
 
   -- Conditional get

@@ -1,8 +1,8 @@
 -- Every request does one of the deeds at ring n, and nothing else: all 23 calls, refusals, and what is no request.
 use Prim.Native.Nat.{ℕ}
-use mathlib.Core.Path.{_≡_, refl, sym, subst}
-use mathlib.Core.Bool.{false}
-use mathlib.Core.List.{List}
+use mathlib.Core.Path.{_≡_, refl, sym, subst, _∙_}
+use mathlib.Core.Bool.{true, false, true≢false}
+use mathlib.Core.List.{List, [], _∷_}
 use mathlib.Core.Logic.{inl, inr}
 use lib.Dec.{eqb}
 use lib.ListN.{length}
@@ -16,6 +16,7 @@ use Rattle.calls.specs.declared.Deed.{Deed}
 use Rattle.calls.specs.declared.Deed.the-variants as deeds
 use Rattle.calls.specs.Calls.{rowOf, callNumber}
 use Rattle.refusals.specs.Refusals.{refusal}
+use Rattle.rings.specs.Steps.{has-behind}
 use Rattle.steps.specs.declared.After.{After}
 use Rattle.steps.specs.Steps.{done, replied, refused, steppedBy, stepped}
 use Rattle.sound.specs.Sound.{Settled}
@@ -25,9 +26,10 @@ use Rattle.promises.specs.KeptRingsAccepted.{get-empty}
 use Rattle.promises.specs.Kept.{done-steady, call-known, sleeps-short, deletes-unused, SoundTables}
 use Rattle.promises.specs.Run.{afterBytes, event, handled-request, handled-rubbish, data-long}
 use Rattle.promises.specs.RingDeeds.{RingDeed}
-use Rattle.promises.specs.RingLines.{same-none}
-use Rattle.promises.specs.RingRests.{seen, idle-code, idle-call, same-rests, step-rests}
-use Rattle.promises.specs.RingCalls.{ringCalls, same-done}
+use Rattle.promises.specs.Answered.{seen, not-among}
+use Rattle.promises.specs.LineCalls.{ringCalls}
+use Rattle.promises.specs.RingLines.{same-none, same-done}
+use Rattle.promises.specs.RingRests.{callsAt, idle-code, idle-call, same-rests, step-rests, at-ring}
 use Rattle.promises.specs.RingStructures.{created-deed, deleted-deed}
 use Rattle.promises.specs.RingTransfers.{put-deed, conditional-put-deed, get-deed, conditional-get-deed, reset-deed}
 
@@ -35,37 +37,45 @@ use Rattle.promises.specs.RingTransfers.{put-deed, conditional-put-deed,
 
 module _ (n : ℕ) (r : Record) (t : Tables) (steady : Steady t) (long : length (r .bytes) ≡ 64) where
   -- A call that is no ring's
-  quiet : (deed : Deed) → callNumber deed ≡ r .what → has (callNumber deed) ringCalls ≡ false → Settled (done deed r t .tables) → RingDeed n (seen t r (replied (done deed r t)))
-  quiet deed call none settled =
-      step-rests n t r (done deed r t) settled (idle-call n (seen t r (replied (done deed r t))) (rw (← call) none)) (same-done n deed r t steady none)
+  quiet : (deed : Deed) → callNumber deed ≡ r .what → has (callNumber deed) (10 ∷ 11 ∷ []) ≡ false → has (callNumber deed) (10 ∷ callsAt) ≡ false → Settled (done deed r t .tables)
+      → RingDeed n (seen t r (replied (done deed r t)))
+  quiet deed call structure none settled =
+      step-rests n t r (done deed r t) settled (idle-call n (seen t r (replied (done deed r t))) (rw (← call) none))
+      (same-done n deed r t steady structure (λ c. absurd (true≢false (sym (has-behind 10 (callNumber deed) callsAt (has-behind 11 (callNumber deed) ringCalls c)) ∙ none))))
+
+  -- A ring's call, by what it does at the ring that it names
+  at-named : (deed : Deed) → callNumber deed ≡ r .what → has (callNumber deed) (10 ∷ 11 ∷ []) ≡ false → Settled (done deed r t .tables)
+      → RingDeed (r .n) (seen t r (replied (done deed r t))) → RingDeed n (seen t r (replied (done deed r t)))
+  at-named deed call structure settled own =
+      at-ring n t r (done deed r t) (rw (← call) (not-among (callNumber deed) (10 ∷ 11 ∷ []) structure 10 refl)) own (λ other. same-done n deed r t steady structure (λ c. other)) settled
 
   -- Each deed of the call table
   accepted-deed : (deed : Deed) → callNumber deed ≡ r .what → Settled (done deed r t .tables) → RingDeed n (seen t r (replied (done deed r t)))
   unfolding done
-  accepted-deed deeds.Unknown call settled = quiet deeds.Unknown call refl settled
-  accepted-deed deeds.Tick call settled = quiet deeds.Tick call refl settled
-  accepted-deed deeds.CreateProcess call settled = quiet deeds.CreateProcess call refl settled
-  accepted-deed deeds.DeleteMyself call settled = quiet deeds.DeleteMyself call refl settled
-  accepted-deed deeds.Suspend call settled = quiet deeds.Suspend call refl settled
-  accepted-deed deeds.Resume call settled = quiet deeds.Resume call refl settled
-  accepted-deed deeds.ChangePriority call settled = quiet deeds.ChangePriority call refl settled
-  accepted-deed deeds.Schedule call settled = quiet deeds.Schedule call refl settled
-  accepted-deed deeds.ProcessState call settled = quiet deeds.ProcessState call refl settled
-  accepted-deed deeds.Sleep call settled = quiet deeds.Sleep call refl settled
+  accepted-deed deeds.Unknown call settled = quiet deeds.Unknown call refl refl settled
+  accepted-deed deeds.Tick call settled = quiet deeds.Tick call refl refl settled
+  accepted-deed deeds.CreateProcess call settled = quiet deeds.CreateProcess call refl refl settled
+  accepted-deed deeds.DeleteMyself call settled = quiet deeds.DeleteMyself call refl refl settled
+  accepted-deed deeds.Suspend call settled = quiet deeds.Suspend call refl refl settled
+  accepted-deed deeds.Resume call settled = quiet deeds.Resume call refl refl settled
+  accepted-deed deeds.ChangePriority call settled = quiet deeds.ChangePriority call refl refl settled
+  accepted-deed deeds.Schedule call settled = quiet deeds.Schedule call refl refl settled
+  accepted-deed deeds.ProcessState call settled = quiet deeds.ProcessState call refl refl settled
+  accepted-deed deeds.Sleep call settled = quiet deeds.Sleep call refl refl settled
   accepted-deed deeds.CreateStructure call settled = created-deed n t r steady (sym call) (r .l) (r .m) settled
   accepted-deed deeds.DeleteStructure call settled = deleted-deed n t r steady (sym call) settled
-  accepted-deed deeds.StructureValue call settled = quiet deeds.StructureValue call refl settled
-  accepted-deed deeds.Signal call settled = quiet deeds.Signal call refl settled
-  accepted-deed deeds.ConditionalSignal call settled = quiet deeds.ConditionalSignal call refl settled
-  accepted-deed deeds.SignalAll call settled = quiet deeds.SignalAll call refl settled
-  accepted-deed deeds.Wait call settled = quiet deeds.Wait call refl settled
-  accepted-deed deeds.ConditionalWait call settled = quiet deeds.ConditionalWait call refl settled
-  accepted-deed deeds.Put call settled = put-deed n t r steady long (inl (sym call)) settled
-  accepted-deed deeds.ConditionalPut call settled = conditional-put-deed n t r steady long (inr (sym call)) settled
-  accepted-deed deeds.Get call settled = get-deed n t r steady (inl (sym call)) settled
-  accepted-deed deeds.ConditionalGet call settled = conditional-get-deed n t r steady (inr (sym call)) settled
-  accepted-deed deeds.ResetRing call settled = reset-deed n t r steady (sym call) settled
-  accepted-deed deeds.Collect call settled = quiet deeds.Collect call refl settled
+  accepted-deed deeds.StructureValue call settled = quiet deeds.StructureValue call refl refl settled
+  accepted-deed deeds.Signal call settled = quiet deeds.Signal call refl refl settled
+  accepted-deed deeds.ConditionalSignal call settled = quiet deeds.ConditionalSignal call refl refl settled
+  accepted-deed deeds.SignalAll call settled = quiet deeds.SignalAll call refl refl settled
+  accepted-deed deeds.Wait call settled = quiet deeds.Wait call refl refl settled
+  accepted-deed deeds.ConditionalWait call settled = quiet deeds.ConditionalWait call refl refl settled
+  accepted-deed deeds.Put call settled = at-named deeds.Put call refl settled (put-deed t r steady long (inl (sym call)) settled)
+  accepted-deed deeds.ConditionalPut call settled = at-named deeds.ConditionalPut call refl settled (conditional-put-deed t r steady long (inr (sym call)) settled)
+  accepted-deed deeds.Get call settled = at-named deeds.Get call refl settled (get-deed t r steady (inl (sym call)) settled)
+  accepted-deed deeds.ConditionalGet call settled = at-named deeds.ConditionalGet call refl settled (conditional-get-deed t r steady (inr (sym call)) settled)
+  accepted-deed deeds.ResetRing call settled = at-named deeds.ResetRing call refl settled (reset-deed t r steady (sym call) settled)
+  accepted-deed deeds.Collect call settled = quiet deeds.Collect call refl refl settled
 
 -- ---- any request
 

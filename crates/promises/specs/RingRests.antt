@@ -25,34 +25,8 @@ use Rattle.promises.specs.Turns.{answered, leftLine, creates, structureB
 use Rattle.promises.specs.RingDeeds.{structureEnds, startsAnew, RingDeed, rests}
 use Rattle.promises.specs.RingLines.{SameRing, same-none, same-then, same-dispatched}
 use Rattle.promises.specs.RingServed.{has-front}
-use Rattle.promises.specs.RingCalls.{ringCalls}
-
--- ---- a request that does nothing at ring n
-
--- A request as a reader sees it: the tables before it, what was asked, what was replied, and the tables after it
-abbrev pub seen : Tables → Record → After → Event
-seen t r a = record { before = t; request = r; reply = a .reply; after = a .tables }
-
--- One of two tests that fails makes both fail
-both-false : (a : Bool) → both a false ≡ false
-both-false true = refl
-both-false false = refl
-
-module _ (call n : ℕ) (e : Event) where
-  -- A call was not answered with code 0: by the code of the reply,
-  by-code : eqb (e .reply .what) 0 ≡ false → answered call n 0 e ≡ false
-  unfolding answered
-  by-code h = rw (h, both-false (eqb (e .request .n) n)) (both-false (eqb (e .request .what) call))
-
-  -- by the call,
-  pub by-call : eqb (e .request .what) call ≡ false → answered call n 0 e ≡ false
-  unfolding answered
-  by-call h = rw h
-
-  -- by the number
-  by-number : eqb (e .request .n) n ≡ false → answered call n 0 e ≡ false
-  unfolding answered
-  by-number h = rw h (both-false (eqb (e .request .what) call))
+use Rattle.promises.specs.LineCalls.{ringCalls}
+use Rattle.promises.specs.Answered.{seen, not-among, by-call, by-number, by-code, not-called, not-created}
 
 -- Nothing is put, got, or counted anew by it,
 pub record Idle (n : ℕ) (e : Event) : Type 0 where
@@ -60,9 +34,9 @@ pub record Idle (n : ℕ) (e : Event) : Type 0 where
   pub not-got : either (answered 20 n 0 e) (answered 21 n 0 e) ≡ false
   pub not-anew : startsAnew n e ≡ false
 
--- The calls of a ring but its creation
+-- The calls at a ring: its deletion, and those that move its bytes
 abbrev pub callsAt : List ℕ
-callsAt = 11 ∷ 18 ∷ 19 ∷ 20 ∷ 21 ∷ 22 ∷ []
+callsAt = 11 ∷ ringCalls
 
 -- as none of a ring's calls was answered with code 0
 pub idle : (n : ℕ) (e : Event) → structureBegins n e ≡ false → ((call : ℕ) → has call callsAt ≡ true → answered call n 0 e ≡ false) → Idle n e
@@ -76,22 +50,20 @@ idle n e no-begin none =
 
 -- It was not done
 pub idle-code : (n : ℕ) (e : Event) → eqb (e .reply .what) 0 ≡ false → Idle n e
-unfolding structureBegins creates
-idle-code n e h = idle n e (rw h (both-false (eqb (e .request .what) 10))) (λ call k. by-code call n e h)
-
--- Another call is not this one
-pub not-among : (call : ℕ) (l : List ℕ) → has call l ≡ false → (k : ℕ) → has k l ≡ true → eqb call k ≡ false
-not-among call l no-one k h = ne-eqb call k (λ e. true≢false (sym h ∙ rw (← e) no-one))
+unfolding structureBegins
+idle-code n e h = idle n e (not-created 10 n e h) (λ call k. by-code call n 0 e h)
 
 -- It is no call of a ring
-pub idle-call : (n : ℕ) (e : Event) → has (e .request .what) ringCalls ≡ false → Idle n e
-unfolding structureBegins creates
-idle-call n e h = idle n e (rw (not-among (e .request .what) ringCalls h 10 refl)) (λ call k. by-call call n e (not-among (e .request .what) ringCalls h call (has-behind 10 call callsAt k)))
+pub idle-call : (n : ℕ) (e : Event) → has (e .request .what) (10 ∷ callsAt) ≡ false → Idle n e
+unfolding structureBegins
+idle-call n e h =
+    let other = not-among (e .request .what) (10 ∷ callsAt) h in
+    idle n e (not-called 10 n e (other 10 refl)) (λ call k. by-call call n 0 e (other call (has-behind 10 call callsAt k)))
 
 -- It is a call of another number, and no creation
 pub idle-number : (n : ℕ) (e : Event) → eqb (e .request .what) 10 ≡ false → eqb (e .request .n) n ≡ false → Idle n e
-unfolding structureBegins creates
-idle-number n e h m = idle n e (rw h) (λ call k. by-number call n e m)
+unfolding structureBegins
+idle-number n e h m = idle n e (not-called 10 n e h) (λ call k. by-number call n 0 e m)
 
 -- Nobody left a line whose members are all there still:
 none-left : (l r : List ℕ) → keep (λ p. not (has p (l ++ r))) l ≡ []

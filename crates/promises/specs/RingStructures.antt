@@ -35,9 +35,9 @@ use Rattle.promises.specs.KeptRings.{one-ring}
 use Rattle.promises.specs.Run.{Event}
 use Rattle.promises.specs.Turns.{answered, creates, structureBegins, leftLine, parcelsBytes, put, got, held, heldBy}
 use Rattle.promises.specs.RingDeeds.{structureEnds, RingDeed, begins, ends}
-use Rattle.promises.specs.RingLines.{SameRing, same-held, same-dispatched}
-use Rattle.promises.specs.RingCalls.{semaphore-holds}
-use Rattle.promises.specs.RingRests.{unmoved-rests, at-ring, seen, by-call, idle, callsAt, not-among, stays-none, step-rests}
+use Rattle.promises.specs.Answered.{seen, not-among, by-call}
+use Rattle.promises.specs.RingLines.{SameRing, same-held, same-dispatched, semaphore-holds}
+use Rattle.promises.specs.RingRests.{unmoved-rests, at-ring, idle, callsAt, stays-none, step-rests}
 
 -- ---- structure m is another, and the rings are these
 
@@ -114,7 +114,7 @@ created-one n m t u r call settled lines own other =
     elim (test (eqb m n)) [
       | holds q ↦ begins (rw (call, q)) (nothing-put n t u r new settled lines (rw call)) (nothing-got n t u r new settled lines (rw call)) (nothing-held n t u r new settled lines (rw (← eqb-true m n q) own))
       | fails q ↦ step-rests n t r (step u new) settled
-          (idle n reader (rw (call, q)) (λ c k. by-call c n reader (rw call (not-among 10 callsAt refl c k))))
+          (idle n reader (rw (call, q)) (λ c k. by-call c n 0 reader (rw call (not-among 10 callsAt refl c k))))
           (other (λ h. eqb-false m n q (sym h)))
     ]
 

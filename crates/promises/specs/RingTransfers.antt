@@ -1,4 +1,4 @@
--- Put and get, their conditional forms, and reset: bytes move at the ring that is named, and every other ring rests.
+-- Put and get, their conditional forms, and reset: bytes move at the ring that is named.
 use Prim.Native.Nat.{ℕ, _+_, _≤_}
 use mathlib.Core.Path.{_≡_, refl, sym, ap, _∙_}
 use mathlib.Core.Bool.{Bool, true, false}
@@ -38,7 +38,7 @@ use Rattle.rings.specs.Steps.{served-structures, served-rings, served-lines}
 use Rattle.rings.specs.Calls.{holds-then, holds-still, holds-nothing}
 use Rattle.rings.specs.Rings.{putThrough, putWaits, putBy, putIn, conditionallyPutBy, conditionallyPut, gotFrom, gotThrough, getWaits, gotBy, got as gotIn, conditionallyGotBy, conditionallyGot, resetIn, resetKind, resetRing}
 use Rattle.sound.specs.Sound.{kindAt, Settled}
-use Rattle.promises.specs.Changes.{Steady}
+use Rattle.promises.specs.Changes.{Steady, Apart}
 use Rattle.promises.specs.KeptReady.{apart-running, runner-place}
 use Rattle.promises.specs.KeptRings.{one-ring, the-runner, settled-fit}
 use Rattle.promises.specs.KeptRingsStill.{WaitsAt, getter, putter, waits-apart}
@@ -46,9 +46,10 @@ use Rattle.promises.specs.KeptRingsCalls.{serves-ring, Within, way-in, w
 use Rattle.promises.specs.Run.{Event}
 use Rattle.promises.specs.Turns.{answered, creates, structureBegins, isReset, leftLine, parcelsBytes, put, got, held, heldBy}
 use Rattle.promises.specs.RingDeeds.{structureEnds, startsAnew, RingDeed, moves, resets}
-use Rattle.promises.specs.RingLines.{SameRing, Off, apart-off, same-held, same-bytes, same-dispatched}
+use Rattle.promises.specs.RingLines.{SameRing, same-bytes, same-dispatched}
 use Rattle.promises.specs.RingServed.{parcels-same, those-who-left, line-once, Served, all-served}
-use Rattle.promises.specs.RingRests.{unmoved-rests, at-ring, seen, idle-code, stays-none, grows-none, idle-rests}
+use Rattle.promises.specs.Answered.{seen}
+use Rattle.promises.specs.RingRests.{unmoved-rests, idle-code, stays-none, grows-none, idle-rests}
 
 -- A ring holds its contents
 held-ring : (n b : ℕ) (t : Tables) → kindAt (t .structures) n ≡ kinds.Ring b → held n t ≡ contents (ringIn t b)
@@ -81,33 +82,6 @@ module _ (m b : ℕ) (x : bays.Ring) (t : Tables) (go : Moving m b x t) where
   kinds-after : after .structures ≡ t .structures
   unfolding withRing
   kinds-after = served-structures m b moved fit-moved
-
-  -- ---- another ring
-
-  module _ (n : ℕ) (other : n ≡ m → ⊥) where
-    -- Its lines stay,
-    lines-else : (l : Line) → ((s : Bool) → stands l (releasedTo s) ≡ false) → ((q : Place) → WaitsAt m q → stands l q ≡ false) → line l after ≡ line l t
-    unfolding withRing line
-    lines-else l out apart =
-        served-lines m b moved fit-moved l out (λ q h. apart q (getter _ (getting m q h))) (λ q h. apart q (putter _ (putting m q h)))
-
-    -- its bay is another,
-    rings-else : (c : ℕ) → kindAt (t .structures) n ≡ kinds.Ring c → ringIn after c ≡ ringIn t c
-    unfolding withRing ringIn
-    rings-else c k =
-        let elsewhere : c ≡ b → ⊥ = λ z. other (one-ring n m b (go .steady .settled) (k ∙ ap kinds.Ring z) (go .ring)) in
-        served-rings m b moved fit-moved c elsewhere ∙ replaced-other (t .rings) b x c emptyBay elsewhere
-
-    -- so it is the same
-    served-same : SameRing n t after
-    served-same =
-        record {
-          getters = lines-else (Getters n) (λ s. released-out n s .0) (λ q w. waits-apart n other w .0);
-          putters = lines-else (Putters n) (λ s. released-out n s .1) (λ q w. waits-apart n other w .1);
-          bytes = same-held n t after (ap (λ l. kindAt l n) kinds-after) rings-else;
-        }
-
-  -- ---- this ring
 
   module _ (q s : Record) where
     -- What a reader sees
@@ -201,10 +175,10 @@ module _ (place : Place) (parcels : List Parcel) (t : Tables) (steady : Steady t
 
   -- So ring n rests
   waits-rests : RingDeed n e-waits
-  unfolding replied repliedBy Off
+  unfolding replied repliedBy Apart
   waits-rests =
       let same = same-dispatched n joined settled in
-      let out : Off n Running = apart-off n Running apart-running in
+      let out : (stands (Getters n) Running ≡ false) × (stands (Putters n) Running ≡ false) = apart-running n in
       idle-rests n e-waits (idle-code n e-waits refl)
       (nobody-left (Getters n) (out .0) (same .getters))
       (nobody-left (Putters n) (out .1) (same .putters))
@@ -225,7 +199,7 @@ one-of what a b rest call h =
 put-equation : (before moved bytes putters getters after : List ℕ) → moved ≡ before ++ bytes → moved ++ putters ≡ getters ++ after → before ++ (bytes ++ putters) ≡ getters ++ after
 put-equation before moved bytes putters getters after e f = sym (append-assoc before bytes putters) ∙ ap (λ (c : List ℕ). c ++ putters) (sym e) ∙ f
 
-module _ (n : ℕ) (t : Tables) (r : Record) (steady : Steady t) (long : length (r .bytes) ≡ 64) (call : (r .what ≡ 18) ⊎ (r .what ≡ 19)) where
+module _ (t : Tables) (r : Record) (steady : Steady t) (long : length (r .bytes) ≡ 64) (call : (r .what ≡ 18) ⊎ (r .what ≡ 19)) where
   module _ (b : ℕ) (ring : kindAt (t .structures) (r .n) ≡ kinds.Ring b) (w : Within (r .l) (ringIn t b .size)) (room : ringIn t b .held + r .l ≤ ringIn t b .size) where
     -- What is brought, the ring with it, and what a reader sees
     abbrev brought : Parcel
@@ -275,33 +249,27 @@ module _ (n : ℕ) (t : Tables) (r : Record) (steady : Steady t) (long : length 
         (holds-then (r .n) b (r .l) (r .bytes) t (putting-in .fit) (w .most) (omega (arith, w .most)) room)
         (served-bytes (r .n) b filled-ring t putting-in r (e-put .reply))))
 
-    -- "Put and get go through at once"
-    put-through : Settled (putThrough (r .n) b (r .l) (r .bytes) t .tables) → RingDeed n e-put
-    unfolding putThrough entered
-    put-through =
-        at-ring n t r (putThrough (r .n) b (r .l) (r .bytes) t) (⊎-elim (λ c. rw c) (λ c. rw c) call) put-own (served-same (r .n) b filled-ring t putting-in n)
-
   -- "else the caller joins that line": nothing is put yet
-  put-waits : (t .running ≡ 0 → ⊥) → Settled (putWaits (r .n) (r .l) (r .bytes) t .tables) → RingDeed n (seen t r (replied (putWaits (r .n) (r .l) (r .bytes) t)))
+  put-waits : (t .running ≡ 0 → ⊥) → Settled (putWaits (r .n) (r .l) (r .bytes) t .tables) → RingDeed (r .n) (seen t r (replied (putWaits (r .n) (r .l) (r .bytes) t)))
   unfolding putWaits withParcel
-  put-waits some settled = waits-rests (Putting (r .n) (r .l)) (replaced (t .parcels) (t .running) (parcelOf (take (r .l) (r .bytes)))) t steady some n r settled
+  put-waits some settled = waits-rests (Putting (r .n) (r .l)) (replaced (t .parcels) (t .running) (parcelOf (take (r .l) (r .bytes)))) t steady some (r .n) r settled
 
   -- Call 18
-  pub put-deed : Settled (putIn (r .n) (r .l) (r .bytes) t .tables) → RingDeed n (seen t r (replied (putIn (r .n) (r .l) (r .bytes) t)))
+  pub put-deed : Settled (putIn (r .n) (r .l) (r .bytes) t .tables) → RingDeed (r .n) (seen t r (replied (putIn (r .n) (r .l) (r .bytes) t)))
   unfolding putIn putBy
   put-deed =
       elim (test (eqb (t .running) 0)) [
-        | holds z ↦ rw z (unmoved-rests n t r)
-        | fails z ↦ rw z (way-in (r .n) (r .l) t (λ way. Settled (putBy (r .n) (r .l) (r .bytes) way t .tables) → RingDeed n (seen t r (replied (putBy (r .n) (r .l) (r .bytes) way t))))
-            (unmoved-rests n t r) put-through (λ b ring w new. put-waits (eqb-false (t .running) 0 z)))
+        | holds z ↦ rw z (unmoved-rests (r .n) t r)
+        | fails z ↦ rw z (way-in (r .n) (r .l) t (λ way. Settled (putBy (r .n) (r .l) (r .bytes) way t .tables) → RingDeed (r .n) (seen t r (replied (putBy (r .n) (r .l) (r .bytes) way t))))
+            (unmoved-rests (r .n) t r) (λ b ring w room settled. put-own b ring w room) (λ b ring w new. put-waits (eqb-false (t .running) 0 z)))
       ]
 
   -- Call 19
-  pub conditional-put-deed : Settled (conditionallyPut (r .n) (r .l) (r .bytes) t .tables) → RingDeed n (seen t r (replied (conditionallyPut (r .n) (r .l) (r .bytes) t)))
+  pub conditional-put-deed : Settled (conditionallyPut (r .n) (r .l) (r .bytes) t .tables) → RingDeed (r .n) (seen t r (replied (conditionallyPut (r .n) (r .l) (r .bytes) t)))
   unfolding conditionallyPut conditionallyPutBy
   conditional-put-deed =
-      way-in (r .n) (r .l) t (λ way. Settled (conditionallyPutBy (r .n) (r .l) (r .bytes) way t .tables) → RingDeed n (seen t r (replied (conditionallyPutBy (r .n) (r .l) (r .bytes) way t))))
-      (unmoved-rests n t r) put-through (λ b ring w new. unmoved-rests n t r)
+      way-in (r .n) (r .l) t (λ way. Settled (conditionallyPutBy (r .n) (r .l) (r .bytes) way t .tables) → RingDeed (r .n) (seen t r (replied (conditionallyPutBy (r .n) (r .l) (r .bytes) way t))))
+      (unmoved-rests (r .n) t r) (λ b ring w room settled. put-own b ring w room) (λ b ring w new. unmoved-rests (r .n) t r)
 
 -- ---- get
 
@@ -313,7 +281,7 @@ get-equation l before moved putters getters after e f =
     ∙ ap (λ (c : List ℕ). take l before ++ c) (ap (λ (c : List ℕ). c ++ putters) (sym e) ∙ f)
     ∙ sym (append-assoc (take l before) getters after)
 
-module _ (n : ℕ) (t : Tables) (r : Record) (steady : Steady t) (call : (r .what ≡ 20) ⊎ (r .what ≡ 21)) where
+module _ (t : Tables) (r : Record) (steady : Steady t) (call : (r .what ≡ 20) ⊎ (r .what ≡ 21)) where
   module _ (b : ℕ) (ring : kindAt (t .structures) (r .n) ≡ kinds.Ring b) (w : Within (r .l) (ringIn t b .size)) (enough : r .l ≤ ringIn t b .held) where
     -- The ring without the bytes, and what a reader sees
     abbrev left-ring : bays.Ring
@@ -366,40 +334,34 @@ module _ (n : ℕ) (t : Tables) (r : Record) (steady : Steady t) (call : (r .wha
         (holds-still (r .n) b (r .l) t (getting-out .fit) (w .most) enough)
         (served-bytes (r .n) b left-ring t getting-out r (e-get .reply))))
 
-    -- "Put and get go through at once"
-    get-through : Settled (gotThrough (r .n) b (r .l) t .tables) → RingDeed n e-get
-    unfolding gotThrough gotFrom
-    get-through =
-        at-ring n t r (gotThrough (r .n) b (r .l) t) (⊎-elim (λ c. rw c) (λ c. rw c) call) get-own (served-same (r .n) b left-ring t getting-out n)
-
   -- Or the caller joins the getters: nothing is got yet
-  get-waits : (t .running ≡ 0 → ⊥) → Settled (getWaits (r .n) (r .l) t .tables) → RingDeed n (seen t r (replied (getWaits (r .n) (r .l) t)))
+  get-waits : (t .running ≡ 0 → ⊥) → Settled (getWaits (r .n) (r .l) t .tables) → RingDeed (r .n) (seen t r (replied (getWaits (r .n) (r .l) t)))
   unfolding getWaits
-  get-waits some settled = waits-rests (Getting (r .n) (r .l)) (t .parcels) t steady some n r settled
+  get-waits some settled = waits-rests (Getting (r .n) (r .l)) (t .parcels) t steady some (r .n) r settled
 
   -- Call 20
-  pub get-deed : Settled (gotIn (r .n) (r .l) t .tables) → RingDeed n (seen t r (replied (gotIn (r .n) (r .l) t)))
+  pub get-deed : Settled (gotIn (r .n) (r .l) t .tables) → RingDeed (r .n) (seen t r (replied (gotIn (r .n) (r .l) t)))
   unfolding gotIn gotBy
   get-deed =
       elim (test (eqb (t .running) 0)) [
-        | holds z ↦ rw z (unmoved-rests n t r)
-        | fails z ↦ rw z (way-out (r .n) (r .l) t (λ way. Settled (gotBy (r .n) (r .l) way t .tables) → RingDeed n (seen t r (replied (gotBy (r .n) (r .l) way t))))
-            (unmoved-rests n t r) get-through (λ b ring w new. get-waits (eqb-false (t .running) 0 z)))
+        | holds z ↦ rw z (unmoved-rests (r .n) t r)
+        | fails z ↦ rw z (way-out (r .n) (r .l) t (λ way. Settled (gotBy (r .n) (r .l) way t .tables) → RingDeed (r .n) (seen t r (replied (gotBy (r .n) (r .l) way t))))
+            (unmoved-rests (r .n) t r) (λ b ring w enough settled. get-own b ring w enough) (λ b ring w new. get-waits (eqb-false (t .running) 0 z)))
       ]
 
   -- Call 21
-  pub conditional-get-deed : Settled (conditionallyGot (r .n) (r .l) t .tables) → RingDeed n (seen t r (replied (conditionallyGot (r .n) (r .l) t)))
+  pub conditional-get-deed : Settled (conditionallyGot (r .n) (r .l) t .tables) → RingDeed (r .n) (seen t r (replied (conditionallyGot (r .n) (r .l) t)))
   unfolding conditionallyGot conditionallyGotBy
   conditional-get-deed =
       elim (test (eqb (t .running) 0)) [
-        | holds z ↦ rw z (unmoved-rests n t r)
-        | fails z ↦ rw z (way-out (r .n) (r .l) t (λ way. Settled (conditionallyGotBy (r .n) (r .l) way t .tables) → RingDeed n (seen t r (replied (conditionallyGotBy (r .n) (r .l) way t))))
-            (unmoved-rests n t r) get-through (λ b ring w new. unmoved-rests n t r))
+        | holds z ↦ rw z (unmoved-rests (r .n) t r)
+        | fails z ↦ rw z (way-out (r .n) (r .l) t (λ way. Settled (conditionallyGotBy (r .n) (r .l) way t .tables) → RingDeed (r .n) (seen t r (replied (conditionallyGotBy (r .n) (r .l) way t))))
+            (unmoved-rests (r .n) t r) (λ b ring w enough settled. get-own b ring w enough) (λ b ring w new. unmoved-rests (r .n) t r))
       ]
 
 -- ---- reset
 
-module _ (n : ℕ) (t : Tables) (r : Record) (steady : Steady t) (call : r .what ≡ 22) where
+module _ (t : Tables) (r : Record) (steady : Steady t) (call : r .what ≡ 22) where
   module _ (b : ℕ) (ring : kindAt (t .structures) (r .n) ≡ kinds.Ring b) where
     -- The ring without its held bytes, and what a reader sees
     abbrev empty-ring : bays.Ring
@@ -443,20 +405,15 @@ module _ (n : ℕ) (t : Tables) (r : Record) (steady : Steady t) (call : r .what
         (ap (λ (c : List ℕ). c ++ parcelsBytes t (leftLine (Putters (r .n)) e-reset)) (sym (holds-nothing (r .n) b t (throwing-away .fit)))
         ∙ served-bytes (r .n) b empty-ring t throwing-away r (e-reset .reply)))
 
-    -- "Reset throws the held bytes away, then serves"
-    reset-in : Settled (resetIn (r .n) b t .tables) → RingDeed n e-reset
-    unfolding resetIn
-    reset-in = at-ring n t r (resetIn (r .n) b t) (rw call) reset-own (served-same (r .n) b empty-ring t throwing-away n)
-
   -- Nothing but a ring is reset
-  reset-by : (kind : Kind) → kindAt (t .structures) (r .n) ≡ kind → Settled (resetKind (r .n) kind t .tables) → RingDeed n (seen t r (replied (resetKind (r .n) kind t)))
+  reset-by : (kind : Kind) → kindAt (t .structures) (r .n) ≡ kind → Settled (resetKind (r .n) kind t .tables) → RingDeed (r .n) (seen t r (replied (resetKind (r .n) kind t)))
   unfolding resetKind
-  reset-by kinds.Free e settled = unmoved-rests n t r settled
-  reset-by (kinds.Binary v) e settled = unmoved-rests n t r settled
-  reset-by (kinds.Counting v) e settled = unmoved-rests n t r settled
-  reset-by (kinds.Ring b) e settled = reset-in b e settled
+  reset-by kinds.Free e settled = unmoved-rests (r .n) t r settled
+  reset-by (kinds.Binary v) e settled = unmoved-rests (r .n) t r settled
+  reset-by (kinds.Counting v) e settled = unmoved-rests (r .n) t r settled
+  reset-by (kinds.Ring b) e settled = reset-own b e
 
   -- Call 22
-  pub reset-deed : Settled (resetRing (r .n) t .tables) → RingDeed n (seen t r (replied (resetRing (r .n) t)))
+  pub reset-deed : Settled (resetRing (r .n) t .tables) → RingDeed (r .n) (seen t r (replied (resetRing (r .n) t)))
   unfolding resetRing structureOf
   reset-deed settled = reset-by (kindAt (t .structures) (r .n)) refl settled

@@ -1,10 +1,10 @@
 -- What leaves a semaphore as it is: its line and its kind. Every step of every call but those that act there.
 use Prim.Native.Nat.{ℕ}
 use mathlib.Core.Path.{_≡_, refl, sym, ap, _∙_}
-use mathlib.Core.Bool.{true, false, not, true≢false}
+use mathlib.Core.Bool.{true, false, not}
 use mathlib.Core.List.{List, [], _∷_}
 use lib.Dec.{eqb}
-use borrow.Author.Tests.{ne-eqb, eqb-true}
+use borrow.Author.Tests.{ne-eqb}
 use Rattle.arrivals.specs.Order.{has, first}
 use Rattle.bay.specs.declared.Ring as bays
 use Rattle.bay.specs.Bay.{emptyBay}
@@ -12,8 +12,6 @@ use Rattle.tables.specs.declared.Tables.{Tables}
 use Rattle.tables.specs.declared.Structure.{Structure}
 use Rattle.tables.specs.declared.Kind.{Kind}
 use Rattle.tables.specs.declared.Kind.the-variants as kinds
-use Rattle.tables.specs.declared.Place.{Place}
-use Rattle.tables.specs.declared.Place.the-variants.{Nowhere, Running, Ready, Parked, Waiting, Getting, Putting, Asleep}
 use Rattle.tables.specs.declared.Line.the-variants.{Semaphore}
 use Rattle.tables.specs.Numbers.{isSemaphore}
 use Rattle.tables.specs.Access.{nothing, structureOf, withStructure, withRing}
@@ -29,9 +27,8 @@ use Rattle.structures.specs.Structures as structures
 use Rattle.sound.specs.Sound.{kindAt, Settled}
 use Rattle.promises.specs.Changes.{Steady, known-structure}
 use Rattle.promises.specs.KeptSemaphores.{semaphore-live}
-use Rattle.promises.specs.KeptRingsStill.{WaitsAt, getter, putter}
-use Rattle.promises.specs.LineSame.{Part, SamePart, Off, part-dispatched}
-use Rattle.promises.specs.LineCalls.{SemaphoreApart, RingApart, semaphoreCalls, part-done}
+use Rattle.promises.specs.LineSame.{Part, SamePart, part-dispatched}
+use Rattle.promises.specs.LineCalls.{semaphoreCalls, part-done}
 
 -- Between t and u nothing is changed at semaphore n
 pub record Same (n : ℕ) (t u : Tables) : Type 0 where
@@ -66,24 +63,6 @@ module _ (n : ℕ) where
   unfolding semaphorePart
   same-part s = record { line-same = s .lines tt; kind-same = s .rest }
 
-  -- Who stands in another semaphore's line does not stand in this one,
-  other-apart : (m : ℕ) (place : Place) → (n ≡ m → ⊥) → stands (Semaphore m) place ≡ true → stands (Semaphore n) place ≡ false
-  unfolding stands
-  other-apart m Nowhere other h = refl
-  other-apart m Running other h = refl
-  other-apart m Ready other h = refl
-  other-apart m Parked other h = refl
-  other-apart m (Waiting j) other h = ne-eqb j n (λ e. other (sym e ∙ eqb-true j m h))
-  other-apart m (Getting j l) other h = refl
-  other-apart m (Putting j l) other h = refl
-  other-apart m (Asleep k) other h = refl
-
-  -- nor does who stands in a ring's
-  ring-apart : (m : ℕ) (place : Place) → WaitsAt m place → stands (Semaphore n) place ≡ false
-  unfolding stands
-  ring-apart m place (getter l e) = rw e
-  ring-apart m place (putter l e) = rw e
-
   -- Another structure is changed
   pub structure-same : (m : ℕ) (s : Structure) (t : Tables) → (n ≡ m → ⊥) → Same n t (withStructure t m s)
   unfolding withStructure line structureOf
@@ -103,14 +82,14 @@ module _ (n : ℕ) where
   -- Any call but create and delete structure, if it does not act at this semaphore
   pub done-same : (deed : Deed) (r : Record) (t : Tables) → Steady t → has (callNumber deed) (10 ∷ 11 ∷ []) ≡ false
       → (has (callNumber deed) semaphoreCalls ≡ true → n ≡ r .n → ⊥) → Same n t (done deed r t .tables)
-  unfolding semaphorePart withKind withRing structureOf
+  unfolding semaphorePart stands withKind withRing structureOf
   done-same deed r t steady there other =
       same-part (part-done semaphorePart deed r t steady there
       (λ c. record {
-        line-apart = λ q h i. other-apart (r .n) q (other c) h;
+        line-apart = λ i. ne-eqb (r .n) n (λ e. other c (sym e));
         value-untold = λ kind was is. structure-same (r .n) (record { kind = kind }) t (other c) .kind-same;
       })
-      (λ c. record { lines-apart = λ q w i. ring-apart (r .n) q w; bay-untold = λ b is u ring e. refl }))
+      (λ c. record { getters-apart = λ l i. refl; putters-apart = λ l i. refl; bay-untold = λ b is u ring e. refl }))
 
   -- Delete of another structure
   pub elsewhere-deleted : (m : ℕ) (t : Tables) → (n ≡ m → ⊥) → Same n t (structures.deleted m t .tables)
