@@ -1,5 +1,6 @@
 -- What soundness does not say of the numbers in the tables: priorities and bytes are below 256. Every deed leaves them so.
 use Prim.Native.Nat.{ℕ, zero, suc, _+_, _-_, _<_}
+use mathlib.Core.Path.{refl}
 use mathlib.Core.Bool.{Bool, true, false, cond}
 use mathlib.Core.List.{List, [], _∷_, _++_}
 use native.Mathlib.Omega.{arith}
@@ -40,6 +41,8 @@ use Rattle.records.specs.Laws.{bytes-take, bytes-drop}
 use Rattle.calls.specs.declared.Deed.{Deed}
 use Rattle.calls.specs.declared.Deed.the-variants as deeds
 use Rattle.steps.specs.Steps.{done}
+use Rattle.promises.specs.KeptStructures.{created-by}
+use Rattle.promises.specs.KeptTick.{mapped-at}
 
 -- ---- bytes below 256
 
@@ -293,42 +296,11 @@ small-numbered : (n : ℕ) (kind : Kind) (t : Tables) → Small t → Small (str
 unfolding structures.numberedAs
 small-numbered n kind t small = small-structure t small n (record { kind = kind })
 
--- a new semaphore,
-small-semaphore : (n : ℕ) (kind : Kind) (t : Tables) → Small t → Small (structures.createdSemaphore n kind t .tables)
-unfolding structures.createdSemaphore
-small-semaphore n kind t small = elim (test (eqb n 0)) [ holds e ↦ rw e small | fails e ↦ rw e (small-numbered n kind t small) ]
-
--- a new ring,
-small-new-ring : (n b size : ℕ) (t : Tables) → Small t → Small (structures.createdRing n b size t .tables)
-unfolding structures.createdRing
-small-new-ring n b size t small =
-    elim (test (eqb n 0)) [
-      | holds e ↦ rw e small
-      | fails e ↦ elim (test (eqb b 0)) [
-        | holds z ↦ rw (e, z) small
-        | fails z ↦ rw (e, z) (small-numbered n (kinds.Ring b) (withRing t b (ringOf 0 size [])) (small-ring t small b (ringOf 0 size []) (bytes-new size)))
-      ]
-    ]
-
--- of a size that a ring may have,
-small-sized-ring : (n b size : ℕ) (t : Tables) → Small t → Small (cond (eqb size 0) (unmoved t) (cond (leb size 256) (structures.createdRing n b size t) (unmoved t)) .tables)
-small-sized-ring n b size t small =
-    elim (test (eqb size 0)) [
-      | holds z ↦ rw z small
-      | fails z ↦ elim (test (leb size 256)) [ holds m ↦ rw (z, m) (small-new-ring n b size t small) | fails m ↦ rw (z, m) small ]
-    ]
-
--- and creation as a whole
+-- and creation
 small-created : (kind amount : ℕ) (t : Tables) → Small t → Small (structures.created kind amount t .tables)
-unfolding structures.created
 small-created kind amount t small =
-    elim (test (eqb kind 1)) [
-      | holds a ↦ elim (test (leb amount 1)) [ holds m ↦ rw (a, m) (small-semaphore _ (kinds.Binary amount) t small) | fails m ↦ rw (a, m) small ]
-      | fails a ↦ elim (test (eqb kind 2)) [
-        | holds b ↦ elim (test (leb amount 32767)) [ holds m ↦ rw (a, b, m) (small-semaphore _ (kinds.Counting amount) t small) | fails m ↦ rw (a, b, m) small ]
-        | fails b ↦ elim (test (eqb kind 3)) [ holds c ↦ rw (a, b, c) (small-sized-ring _ _ amount t small) | fails c ↦ rw (a, b, c) small ]
-      ]
-    ]
+    created-by kind amount t (λ s. Small (s .tables)) small (λ most z. small-numbered _ (kinds.Binary amount) t small) (λ most z. small-numbered _ (kinds.Counting amount) t small)
+    (λ some most z y. small-numbered _ (kinds.Ring (structures.freeBay (t .structures))) (withRing t _ (ringOf 0 amount [])) (small-ring t small _ (ringOf 0 amount []) (bytes-new amount)))
 
 -- Delete structure, by its kind
 small-deleted : (n : ℕ) (kind : Kind) (t : Tables) → Small t → Small (structures.deletedAt n t kind .tables)
@@ -471,13 +443,10 @@ module _ (t : Tables) (small : Small t) where
 
   -- No priority changes with time
   small-later : (k : ℕ) → Small (processes.allLater k t)
-  unfolding processes.allLater numbered
+  unfolding processes.allLater
   small-later k =
       record {
-        priorities = λ p. elim (test (eqb p 0)) [
-          | holds z ↦ rw z (omega arith)
-          | fails z ↦ rw (z, List·getD-map (processes.later k) (t .processes) (p - 1) nobody) (rw z at (small .priorities p))
-        ];
+        priorities = λ p. rw (mapped-at (processes.later k) refl (t .processes) p) (small .priorities p);
         ring-bytes = small .ring-bytes;
         parcel-bytes = small .parcel-bytes;
       }

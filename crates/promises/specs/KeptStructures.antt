@@ -24,6 +24,8 @@ use Rattle.tables.specs.Numbers.{code, isRing}
 use Rattle.tables.specs.Access.{numbered, replaced, nothing, structureOf, withStructure, withRing}
 use Rattle.tables.specs.Lines.{waitsAt, waitingAt, inLinesOf}
 use Rattle.tables.specs.Laws.{numbered-zero, length-replaced, replaced-same, replaced-other}
+use Rattle.answers.specs.declared.Step.{Step}
+use Rattle.answers.specs.Answers.{unmoved}
 use Rattle.structures.specs.Structures.{isIn, isFree, free, taken, freeNumber, freeBay, numberedAs, createdSemaphore, createdRing, created, deletedAt, deleted, valuedAs, valuedAt, valued}
 use Rattle.structures.specs.Laws.{number-free, bay-free}
 use Rattle.sound.specs.Sound.{placeAt, kindAt, bayOf, users, ValueFits, BayFits, Settled}
@@ -99,16 +101,11 @@ free-vacant t steady z =
     }
 
 -- A semaphore is created
-created-semaphore : (kind : Kind) (t : Tables) → Steady t → isRing kind ≡ false → ValueFits kind → Steady (createdSemaphore (freeNumber (t .structures)) kind t .tables)
-unfolding createdSemaphore numberedAs withStructure
-created-semaphore kind t steady is fits =
-    let n = freeNumber (t .structures) in
-    elim (test (eqb n 0)) [
-      | holds z ↦ rw z steady
-      | fails z ↦
-          let v : Vacant n t = free-vacant t steady (eqb-false n 0 z) in
-          rw z (steady-plain n (record { kind = kind }) t steady (v .some) (v .known) (ap isRing (v .kind)) is fits (v .none))
-    ]
+created-semaphore : (kind : Kind) (t : Tables) → Steady t → isRing kind ≡ false → ValueFits kind → (freeNumber (t .structures) ≡ 0 → ⊥) → Steady (numberedAs (freeNumber (t .structures)) kind t .tables)
+unfolding numberedAs withStructure
+created-semaphore kind t steady is fits z =
+    let v : Vacant (freeNumber (t .structures)) t = free-vacant t steady z in
+    steady-plain (freeNumber (t .structures)) (record { kind = kind }) t steady (v .some) (v .known) (ap isRing (v .kind)) is fits (v .none)
 
 -- A ring's bay, and the others'
 module _ (n b : ℕ) (s : Structure) (r : bays.Ring) (t : Tables) (steady : Steady t) (z : n ≡ 0 → ⊥) (known : n ≤ length (t .structures)) (bay : b ≡ 0 → ⊥) (within : b ≤ 8) (none : Unwaited n t)
@@ -142,54 +139,66 @@ same-bay : (b : ℕ) → inBay b (kinds.Ring b) ≡ 1
 same-bay b = rw (eq-eqb b b refl)
 
 -- A ring is created, in a bay that nobody uses
-created-ring : (size : ℕ) (t : Tables) → Steady t → (size ≡ 0 → ⊥) → size ≤ 256 → Steady (createdRing (freeNumber (t .structures)) (freeBay (t .structures)) size t .tables)
-unfolding createdRing numberedAs withStructure withRing
-created-ring size t steady some most =
+created-ring : (size : ℕ) (t : Tables) → Steady t → (size ≡ 0 → ⊥) → size ≤ 256 → (freeNumber (t .structures) ≡ 0 → ⊥) → (freeBay (t .structures) ≡ 0 → ⊥)
+    → Steady (numberedAs (freeNumber (t .structures)) (kinds.Ring (freeBay (t .structures))) (withRing t (freeBay (t .structures)) (ringOf 0 size [])) .tables)
+unfolding numberedAs withStructure withRing
+created-ring size t steady some most z y =
     let n = freeNumber (t .structures) in
     let b = freeBay (t .structures) in
-    elim (test (eqb n 0)) [
-      | holds z ↦ rw z steady
-      | fails z ↦
-          elim (test (eqb b 0)) [
-            | holds y ↦ rw (z, y) steady
-            | fails y ↦
-                let v : Vacant n t = free-vacant t steady (eqb-false n 0 z) in
-                let w = bay-free (t .structures) (eqb-false b 0 y) in
-                let unused : users b (t .structures) ≡ 0 = not-taken (t .structures) b (w .0) in
-                rw (z, y) (ring-steady n b (record { kind = kinds.Ring b }) (ringOf 0 size []) t steady (v .some) (v .known) (eqb-false b 0 y) (omega (arith, w .2)) (v .none)
-                (omega (arith, w .1), omega (arith, w .2))
-                (λ m h e. no-user (t .structures) b m (eqb-false b 0 y) unused e)
-                (sound.used (omega (arith, users-replaced b (t .structures) n (record { kind = kinds.Ring b }) (v .some) (v .known), ap (inBay b) (v .kind), same-bay b)) (ringOf-good 0 size [] (record { small = most; within = omega arith; most = omega arith })))
-                (λ c h. (ap (inBay c) (v .kind), other-bay b c h)))
-          ]
-    ]
+    let v : Vacant n t = free-vacant t steady z in
+    let w = bay-free (t .structures) y in
+    let unused : users b (t .structures) ≡ 0 = not-taken (t .structures) b (w .0) in
+    ring-steady n b (record { kind = kinds.Ring b }) (ringOf 0 size []) t steady (v .some) (v .known) y (omega (arith, w .2)) (v .none)
+    (omega (arith, w .1), omega (arith, w .2))
+    (λ m h e. no-user (t .structures) b m y unused e)
+    (sound.used (omega (arith, users-replaced b (t .structures) n (record { kind = kinds.Ring b }) (v .some) (v .known), ap (inBay b) (v .kind), same-bay b)) (ringOf-good 0 size [] (record { small = most; within = omega arith; most = omega arith })))
+    (λ c h. (ap (inBay c) (v .kind), other-bay b c h))
 
--- "Creation takes the lowest free number and, for a ring, bay"
-pub created-steady : (kind amount : ℕ) (t : Tables) → Steady t → Steady (created kind amount t .tables)
-unfolding created
-created-steady kind amount t steady =
-    elim (test (eqb kind 1)) [
-      | holds a ↦ elim (test (leb amount 1)) [
-        | holds b ↦ rw (a, b) (created-semaphore (kinds.Binary amount) t steady refl (leb-true amount 1 b))
-        | fails b ↦ rw (a, b) steady
+-- What creation does, by the kind and the amount: nothing, or a structure with the lowest free number and, if it is a ring, in the lowest free bay
+module _ (kind amount : ℕ) (t : Tables) (P : Step → Type 0) (none : P (unmoved t)) where
+  -- The number, and the bay
+  abbrev n : ℕ
+  n = freeNumber (t .structures)
+
+  abbrev b : ℕ
+  b = freeBay (t .structures)
+
+  semaphore-by : (k : Kind) → ((n ≡ 0 → ⊥) → P (numberedAs n k t)) → P (createdSemaphore n k t)
+  unfolding createdSemaphore
+  semaphore-by k new = elim (test (eqb n 0)) [ holds z ↦ rw z none | fails z ↦ rw z (new (eqb-false n 0 z)) ]
+
+  ring-by : ((n ≡ 0 → ⊥) → (b ≡ 0 → ⊥) → P (numberedAs n (kinds.Ring b) (withRing t b (ringOf 0 amount [])))) → P (createdRing n b amount t)
+  unfolding createdRing
+  ring-by new =
+      elim (test (eqb n 0)) [
+        | holds z ↦ rw z none
+        | fails z ↦ elim (test (eqb b 0)) [ holds y ↦ rw (z, y) none | fails y ↦ rw (z, y) (new (eqb-false n 0 z) (eqb-false b 0 y)) ]
       ]
-      | fails a ↦ elim (test (eqb kind 2)) [
-        | holds b ↦ elim (test (leb amount 32767)) [
-          | holds c ↦ rw (a, b, c) (created-semaphore (kinds.Counting amount) t steady refl (leb-true amount 32767 c))
-          | fails c ↦ rw (a, b, c) steady
-        ]
-        | fails b ↦ elim (test (eqb kind 3)) [
-          | fails c ↦ rw (a, b, c) steady
-          | holds c ↦ elim (test (eqb amount 0)) [
-            | holds d ↦ rw (a, b, c, d) steady
-            | fails d ↦ elim (test (leb amount 256)) [
-              | holds e ↦ rw (a, b, c, d, e) (created-ring amount t steady (eqb-false amount 0 d) (leb-true amount 256 e))
-              | fails e ↦ rw (a, b, c, d, e) steady
+
+  -- "Kind 1 binary (value 0 or 1), 2 counting (0 to 32,767), 3 ring (size 1 to 256)"
+  pub created-by : (amount ≤ 1 → (n ≡ 0 → ⊥) → P (numberedAs n (kinds.Binary amount) t)) → (amount ≤ 32767 → (n ≡ 0 → ⊥) → P (numberedAs n (kinds.Counting amount) t))
+      → ((amount ≡ 0 → ⊥) → amount ≤ 256 → (n ≡ 0 → ⊥) → (b ≡ 0 → ⊥) → P (numberedAs n (kinds.Ring b) (withRing t b (ringOf 0 amount [])))) → P (created kind amount t)
+  unfolding created
+  created-by binary counting ring =
+      elim (test (eqb kind 1)) [
+        | holds c ↦ elim (test (leb amount 1)) [ holds d ↦ rw (c, d) (semaphore-by (kinds.Binary amount) (binary (leb-true amount 1 d))) | fails d ↦ rw (c, d) none ]
+        | fails c ↦ elim (test (eqb kind 2)) [
+          | holds d ↦ elim (test (leb amount 32767)) [ holds e ↦ rw (c, d, e) (semaphore-by (kinds.Counting amount) (counting (leb-true amount 32767 e))) | fails e ↦ rw (c, d, e) none ]
+          | fails d ↦ elim (test (eqb kind 3)) [
+            | fails e ↦ rw (c, d, e) none
+            | holds e ↦ elim (test (eqb amount 0)) [
+              | holds f ↦ rw (c, d, e, f) none
+              | fails f ↦ elim (test (leb amount 256)) [ holds g ↦ rw (c, d, e, f, g) (ring-by (ring (eqb-false amount 0 f) (leb-true amount 256 g))) | fails g ↦ rw (c, d, e, f, g) none ]
             ]
           ]
         ]
       ]
-    ]
+
+-- "Creation takes the lowest free number and, for a ring, bay"
+pub created-steady : (kind amount : ℕ) (t : Tables) → Steady t → Steady (created kind amount t .tables)
+created-steady kind amount t steady =
+    created-by kind amount t (λ s. Steady (s .tables)) steady
+    (λ most. created-semaphore (kinds.Binary amount) t steady refl most) (λ most. created-semaphore (kinds.Counting amount) t steady refl most) (created-ring amount t steady)
 
 -- ---- delete structure
 

@@ -32,6 +32,7 @@ use Rattle.structures.specs.Laws.{number-free, bay-free}
 use Rattle.sound.specs.Sound.{kindAt, Settled}
 use Rattle.promises.specs.Changes.{known-structure, Steady, structuredTo}
 use Rattle.promises.specs.KeptRings.{one-ring}
+use Rattle.promises.specs.KeptStructures.{free-vacant, created-by}
 use Rattle.promises.specs.Run.{Event}
 use Rattle.promises.specs.Turns.{answered, creates, structureBegins, leftLine, parcelsBytes, put, got, held, heldBy}
 use Rattle.promises.specs.RingDeeds.{structureEnds, RingDeed, begins, ends}
@@ -128,20 +129,13 @@ module _ (n : ℕ) (t : Tables) (r : Record) (steady : Steady t) (call : r .what
   abbrev DeedOf : Step → Type 0
   DeedOf s = Settled (s .tables) → RingDeed n (seen t r (replied s))
 
-  -- The new number is one of the table's
-  number-known : (m ≡ 0 → ⊥) → m ≤ length (t .structures)
-  number-known z = omega (arith, number-free (t .structures) z .2, steady .typed .structures)
-
   -- A semaphore
-  semaphore-created : (kind : Kind) → isSemaphore kind ≡ true → DeedOf (createdSemaphore m kind t)
-  unfolding createdSemaphore numberedAs withStructure
-  semaphore-created kind is =
+  semaphore-created : (kind : Kind) → isSemaphore kind ≡ true → (m ≡ 0 → ⊥) → DeedOf (numberedAs m kind t)
+  unfolding numberedAs withStructure
+  semaphore-created kind is z settled =
       let s : Structure = record { kind = kind } in
-      elim (test (eqb m 0)) [
-        | holds z ↦ rw z (unmoved-rests n t r)
-        | fails z ↦ rw z (λ settled. created-one n m t (then n m s (t .rings) t) r call settled (same-lines n m s (t .rings) t)
-            (own-held n m s (t .rings) t (eqb-false m 0 z) (number-known (eqb-false m 0 z)) ∙ semaphore-holds kind (then n m s (t .rings) t) is) (same-rings n m s t))
-      ]
+      created-one n m t (then n m s (t .rings) t) r call settled (same-lines n m s (t .rings) t)
+      (own-held n m s (t .rings) t z (free-vacant t steady z .known) ∙ semaphore-holds kind (then n m s (t .rings) t) is) (same-rings n m s t)
 
   -- A ring, in a bay that no other has,
   module _ (size : ℕ) (some : size ≡ 0 → ⊥) (most : size ≤ 256) (z : m ≡ 0 → ⊥) (y : freeBay (t .structures) ≡ 0 → ⊥) where
@@ -154,13 +148,13 @@ module _ (n : ℕ) (t : Tables) (r : Record) (steady : Steady t) (call : r .what
 
     -- It is a ring there
     made-kind : kindAt (made .structures) m ≡ kinds.Ring b
-    made-kind = ap (λ (x : Structure). x .kind) (replaced-same (t .structures) m (record { kind = kinds.Ring b }) nothing z (number-known z))
+    made-kind = ap (λ (x : Structure). x .kind) (replaced-same (t .structures) m (record { kind = kinds.Ring b }) nothing z (free-vacant t steady z .known))
 
     -- and holds nothing
     made-held : held m made ≡ []
     unfolding heldBy ringIn
     made-held =
-        own-held n m (record { kind = kinds.Ring b }) (replaced (t .rings) b (ringOf 0 size [])) t z (number-known z)
+        own-held n m (record { kind = kinds.Ring b }) (replaced (t .rings) b (ringOf 0 size [])) t z (free-vacant t steady z .known)
         ∙ ap contents (replaced-same (t .rings) b (ringOf 0 size []) emptyBay y (omega (arith, bay-free (t .structures) y .2, steady .typed .rings)))
         ∙ contents-ringOf 0 size [] (record { small = most; within = omega arith; most = omega arith })
 
@@ -169,49 +163,16 @@ module _ (n : ℕ) (t : Tables) (r : Record) (steady : Steady t) (call : r .what
     made-apart settled h k = h (one-ring n m b settled (same-kind n m (record { kind = kinds.Ring b }) (made .rings) t h ∙ k) made-kind)
 
     -- So it begins, and every other rests
-    ring-made : Settled made → RingDeed n (seen t r (replied (step made (answer Done m 0 0 (replicate 64 0)))))
+    ring-made : DeedOf (numberedAs m (kinds.Ring b) (withRing t b (ringOf 0 size [])))
+    unfolding numberedAs withStructure withRing
     ring-made settled =
         created-one n m t made r call settled (same-lines n m (record { kind = kinds.Ring b }) (made .rings) t) made-held
         (λ h. same-but n m b (record { kind = kinds.Ring b }) (ringOf 0 size []) t h (made-apart settled h))
 
-  -- where there is a number and a bay
-  ring-created : (size : ℕ) → (size ≡ 0 → ⊥) → size ≤ 256 → DeedOf (createdRing m (freeBay (t .structures)) size t)
-  unfolding createdRing numberedAs withStructure withRing
-  ring-created size some most =
-      elim (test (eqb m 0)) [
-        | holds z ↦ rw z (unmoved-rests n t r)
-        | fails z ↦ elim (test (eqb (freeBay (t .structures)) 0)) [
-          | holds y ↦ rw (z, y) (unmoved-rests n t r)
-          | fails y ↦ rw (z, y) (ring-made size some most (eqb-false m 0 z) (eqb-false (freeBay (t .structures)) 0 y))
-        ]
-      ]
-
   -- Call 10
   pub created-deed : (kind amount : ℕ) → DeedOf (created kind amount t)
-  unfolding created
   created-deed kind amount =
-      elim (test (eqb kind 1)) [
-        | holds c ↦ elim (test (leb amount 1)) [
-          | holds d ↦ rw (c, d) (semaphore-created (kinds.Binary amount) refl)
-          | fails d ↦ rw (c, d) (unmoved-rests n t r)
-        ]
-        | fails c ↦ elim (test (eqb kind 2)) [
-          | holds d ↦ elim (test (leb amount 32767)) [
-            | holds f ↦ rw (c, d, f) (semaphore-created (kinds.Counting amount) refl)
-            | fails f ↦ rw (c, d, f) (unmoved-rests n t r)
-          ]
-          | fails d ↦ elim (test (eqb kind 3)) [
-            | fails f ↦ rw (c, d, f) (unmoved-rests n t r)
-            | holds f ↦ elim (test (eqb amount 0)) [
-              | holds g ↦ rw (c, d, f, g) (unmoved-rests n t r)
-              | fails g ↦ elim (test (leb amount 256)) [
-                | holds h ↦ rw (c, d, f, g, h) (ring-created amount (eqb-false amount 0 g) (leb-true amount 256 h))
-                | fails h ↦ rw (c, d, f, g, h) (unmoved-rests n t r)
-              ]
-            ]
-          ]
-        ]
-      ]
+      created-by kind amount t DeedOf (unmoved-rests n t r) (λ most. semaphore-created (kinds.Binary amount) refl) (λ most. semaphore-created (kinds.Counting amount) refl) (ring-made amount)
 
 -- ---- delete structure
 

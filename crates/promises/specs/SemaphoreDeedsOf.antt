@@ -56,7 +56,7 @@ use Rattle.promises.specs.LineCalls.{semaphoreCalls}
 use Rattle.promises.specs.SemaphoreShown.{Unasked, uncalled, unnamed, unperformed, nothing-shown, no-newcomer, left-head, left-all, performed-shown}
 use Rattle.promises.specs.SemaphoreSame.{Same, same-none, same-then, kind-now, kind-line, no-head, dispatched-same, ring-same, done-same, structure-same, elsewhere-deleted}
 use Rattle.promises.specs.KeptProcesses.{nowhere-stands, free-unused}
-use Rattle.promises.specs.KeptStructures.{Vacant, free-vacant, no-lines}
+use Rattle.promises.specs.KeptStructures.{Vacant, free-vacant, created-by, no-lines}
 
 -- ---- nothing is done at n
 
@@ -341,70 +341,6 @@ create-process-of n t r steady what settled =
     rests-of n t r (processes.created (r .l) t) settled (done-same n deeds.CreateProcess r t steady refl (λ c. absurd (true≢false (sym c)))) (uncalled n e (rw what)) (not-called 10 n e (rw what))
     (λ p h. not-listed p (line (Semaphore n) t) (has-not (standing (Semaphore n) (t .processes)) p (t .order) (new-apart n (r .l) t r p h)))
 
--- What creation of a structure does: the lowest free number has this kind, in tables that differ at most in a bay
-data Created (kind amount : ℕ) (t : Tables) : Type 0 where
-  idle : structures.created kind amount t ≡ unmoved t → Created kind amount t
-  new : (k : Kind) (u : Tables) → (structures.freeNumber (t .structures) ≡ 0 → ⊥) → StartsAt amount k → ((n : ℕ) → Same n t u) → u .structures ≡ t .structures
-      → structures.created kind amount t ≡ structures.numberedAs (structures.freeNumber (t .structures)) k u → Created kind amount t
-
-module _ (kind amount : ℕ) (t : Tables) where
-  -- The number, and a ring's bay
-  abbrev lowest : ℕ
-  lowest = structures.freeNumber (t .structures)
-
-  abbrev bay : ℕ
-  bay = structures.freeBay (t .structures)
-
-  -- A semaphore, where there is a number
-  semaphore-as : (k : Kind) → StartsAt amount k → structures.created kind amount t ≡ structures.createdSemaphore lowest k t → Created kind amount t
-  unfolding structures.createdSemaphore
-  semaphore-as k start e =
-      elim (test (eqb lowest 0)) [
-        | holds z ↦ idle (e ∙ rw z)
-        | fails z ↦ new k t (eqb-false lowest 0 z) start (λ m. same-none m t) refl (e ∙ rw z)
-      ]
-
-  -- A ring, where there is a number and a bay
-  ring-as : structures.created kind amount t ≡ structures.createdRing lowest bay amount t → Created kind amount t
-  unfolding structures.createdRing withRing
-  ring-as e =
-      let ring = ringOf 0 amount [] in
-      elim (test (eqb lowest 0)) [
-        | holds z ↦ idle (e ∙ rw z)
-        | fails z ↦
-            elim (test (eqb bay 0)) [
-              | holds y ↦ idle (e ∙ rw (z, y))
-              | fails y ↦ new (kinds.Ring bay) (withRing t bay ring) (eqb-false lowest 0 z) tt (λ m. ring-same m bay ring t) refl (e ∙ rw (z, y))
-            ]
-      ]
-
-  -- Kind 3, of a size of 1 to 256
-  ring-sized : eqb kind 1 ≡ false → eqb kind 2 ≡ false → eqb kind 3 ≡ true → Created kind amount t
-  unfolding structures.created
-  ring-sized a d c =
-      elim (test (eqb amount 0)) [
-        | holds f ↦ idle (rw (a, d, c, f))
-        | fails f ↦ elim (test (leb amount 256)) [ holds g ↦ ring-as (rw (a, d, c, f, g)) | fails g ↦ idle (rw (a, d, c, f, g)) ]
-      ]
-
-  -- Kind 2, up to 32,767, and kind 3
-  other-as : eqb kind 1 ≡ false → Created kind amount t
-  unfolding structures.created
-  other-as a =
-      elim (test (eqb kind 2)) [
-        | holds d ↦ elim (test (leb amount 32767)) [ holds c ↦ semaphore-as (kinds.Counting amount) refl (rw (a, d, c)) | fails c ↦ idle (rw (a, d, c)) ]
-        | fails d ↦ elim (test (eqb kind 3)) [ holds c ↦ ring-sized a d c | fails c ↦ idle (rw (a, d, c)) ]
-      ]
-
-  -- Kind 1, 0 or 1; or another kind
-  created-as : Created kind amount t
-  unfolding structures.created
-  created-as =
-      elim (test (eqb kind 1)) [
-        | holds a ↦ elim (test (leb amount 1)) [ holds c ↦ semaphore-as (kinds.Binary amount) refl (rw (a, c)) | fails c ↦ idle (rw (a, c)) ]
-        | fails a ↦ other-as a
-      ]
-
 -- Nobody waits at a structure, so its line is empty
 unwaited-empty : (n : ℕ) (t : Tables) → Unwaited n t → line (Semaphore n) t ≡ []
 unfolding Unwaited line
@@ -421,7 +357,7 @@ structure-now m n kind t here some known = rw (← here) (ap (λ (s : Structure)
 
 -- The new structure, and every other one
 numbered-of : (n : ℕ) (t u : Tables) (r : Record) (k : Kind) → Steady t → r .what ≡ 10 → (structures.freeNumber (t .structures) ≡ 0 → ⊥) → StartsAt (r .m) k
-    → ((m : ℕ) → Same m t u) → u .structures ≡ t .structures → Settled (structures.numberedAs (structures.freeNumber (t .structures)) k u .tables)
+    → Same n t u → u .structures ≡ t .structures → Settled (structures.numberedAs (structures.freeNumber (t .structures)) k u .tables)
     → DeedAt n (seen t r (replied (structures.numberedAs (structures.freeNumber (t .structures)) k u)))
 unfolding structures.numberedAs replied repliedBy processBegins structureBegins creates
 numbered-of n t u r k steady what some start same kept settled =
@@ -432,14 +368,14 @@ numbered-of n t u r k steady what some start same kept settled =
     let after = dispatched-same n (s .tables) settled in
     elim (test (eqb m n)) [
       | fails q ↦
-          rests-of n t r s settled (same-then (same n) (structure-same n m (record { kind = k }) u (λ x. eqb-false m n q (sym x)))) (uncalled n e (rw what))
+          rests-of n t r s settled (same-then same (structure-same n m (record { kind = k }) u (λ x. eqb-false m n q (sym x)))) (uncalled n e (rw what))
           (rw (what, q)) (no-newcomer e (line (Semaphore n) t) none)
       | holds q ↦
           let v : Vacant m t = free-vacant t steady some in
           let here : m ≡ n = eqb-true m n q in
           let empty : line (Semaphore n) t ≡ [] = unwaited-empty n t (subst (λ (x : ℕ). Unwaited x t) here (v .none)) in
           begins k start empty (nothing-shown n e (uncalled n e (rw what)) [] k true
-          (after .line-same ∙ structure-line n m k u ∙ same n .line-same ∙ empty)
+          (after .line-same ∙ structure-line n m k u ∙ same .line-same ∙ empty)
           (after .kind-same ∙ structure-now m n k u here (v .some) (rw kept (v .known)))
           (rw (what, q)) (no-newcomer e [] none))
     ]
@@ -447,11 +383,12 @@ numbered-of n t u r k steady what some start same kept settled =
 -- Create structure
 create-structure-of : (n : ℕ) (t : Tables) (r : Record) → Steady t → r .what ≡ 10 → Settled (structures.created (r .l) (r .m) t .tables)
     → DeedAt n (seen t r (replied (structures.created (r .l) (r .m) t)))
-create-structure-of n t r steady what settled =
-    elim (created-as (r .l) (r .m) t) [
-      | idle e ↦ by-step n t r _ _ e settled (unmoved-of n t r)
-      | new k u some start same kept e ↦ by-step n t r _ _ e settled (numbered-of n t u r k steady what some start same kept)
-    ]
+unfolding withRing
+create-structure-of n t r steady what =
+    created-by (r .l) (r .m) t (λ s. Settled (s .tables) → DeedAt n (seen t r (replied s))) (unmoved-of n t r)
+    (λ most some. numbered-of n t t r (kinds.Binary (r .m)) steady what some refl (same-none n t) refl)
+    (λ most some. numbered-of n t t r (kinds.Counting (r .m)) steady what some refl (same-none n t) refl)
+    (λ size most some bay. numbered-of n t _ r (kinds.Ring (structures.freeBay (t .structures))) steady what some tt (ring-same n (structures.freeBay (t .structures)) (ringOf 0 (r .m) []) t) refl)
 
 -- Structure n is free, and nobody stood in its line
 ended-of : (n : ℕ) (t u : Tables) (r : Record) → r .what ≡ 11 → line (Semaphore n) t ≡ [] → line (Semaphore n) u ≡ line (Semaphore n) t → structureOf u n .kind ≡ kinds.Free
