@@ -44,6 +44,17 @@ place-zero l p e = ap (λ (q : Process). q .place) (numbered-zero l p nobody e)
 pub nowhere-runs : {A : Type 0} → Nowhere ≡ Running → A
 nowhere-runs e = let z : _≡_ {A = ℕ} 0 1 = cc in absurd (omega arith)
 
+-- Nobody is listed twice
+pub listings-most : (q : Place) → listings q ≤ 1
+listings-most Nowhere = omega arith
+listings-most Running = omega arith
+listings-most Ready = omega arith
+listings-most Parked = omega arith
+listings-most (Waiting n) = omega arith
+listings-most (Getting n l) = omega arith
+listings-most (Putting n l) = omega arith
+listings-most (Asleep k) = omega arith
+
 -- ---- still: only the heads of the rings' lines, what they ask, and the rings are looked at
 
 -- A place in no line of a ring

@@ -2,14 +2,13 @@
 use Prim.Native.Nat.{ℕ, _≤_}
 use mathlib.Core.Path.{_≡_, refl, sym, ap, subst, _∙_}
 use mathlib.Core.Bool.{Bool, true, false, true≢false}
-use mathlib.Core.List.{List, [], _∷_}
 use native.Mathlib.Omega.{arith}
 use lib.Dec.{eqb, ltb}
 use borrow.Author.Tests.{eq-eqb, eqb-true, leb-true, ltb-false, not-false}
 use Rattle.basics.specs.Tests.{test, holds, fails}
-use Rattle.arrivals.specs.Order.{has, zerosFirst}
+use Rattle.arrivals.specs.Order.{has}
 use Rattle.tables.specs.declared.Tables.{Tables}
-use Rattle.tables.specs.Lines.{urgency, inLinesOf}
+use Rattle.tables.specs.Lines.{inLinesOf}
 use Rattle.records.specs.declared.Record.{Record}
 use Rattle.calls.specs.declared.Deed.{Deed}
 use Rattle.calls.specs.declared.Deed.the-variants as deeds
@@ -21,11 +20,9 @@ use Rattle.ready.specs.Ready.{dispatched}
 use Rattle.steps.specs.Steps.{done, repliedBy, replied, refused, steppedBy, stepped}
 use Rattle.sound.specs.Fresh.{fresh-sound as fresh-is-sound}
 use Rattle.sound.specs.Sound.{Sound}
-use Rattle.bay.specs.Bay.{zeros, emptyBay, emptyParcel}
 use lib.ListN.{length}
-use Rattle.tables.specs.Access.{numbered, fresh, parcelFor}
-use Rattle.sound.specs.Tested.{soundB, settledTested, stillnessTested, urgencyTested, every, orderTested, listedTested, runsTested, asksTested, placeTested, fitsTested, keptAs, keptTested, processTested, valueTested, emptyTested, clearTested, goodTested, bayTested, stillTested, rankTested}
-use Rattle.sound.specs.Decided.{Typed, sound-decided}
+use Rattle.tables.specs.Access.{fresh, parcelFor}
+use Rattle.sound.specs.Decided.{Typed}
 use Rattle.promises.specs.KeptRingsCalls.{put-steady, conditional-put-steady, get-steady, conditional-get-steady, reset-steady, collect-steady}
 use Rattle.promises.specs.KeptRingsAccepted.{get-empty}
 use Rattle.bay.specs.declared.Holding.the-variants.{Nothing}

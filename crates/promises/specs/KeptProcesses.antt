@@ -31,7 +31,7 @@ use Rattle.ready.specs.Ready.{placed, withPlace, joins, runnerJoins, runs}
 use Rattle.processes.specs.Processes.{isFree, lowestFree, freeProcess, newcomer, createdAs, created, gone, deletedMyself, marked, parked, suspendedFrom, suspendedOf, suspended, resumedFrom, resumedOf, resumed, withPriority, prioritisedFrom, prioritisedOf, prioritised, readyHas, headRuns, scheduled, statedOf, stated, slept}
 use Rattle.sound.specs.Sound.{placeAt, parcelAt, listings, PlaceFits, Fits, Settled}
 use Rattle.sound.specs.Sound as sound
-use Rattle.promises.specs.Changes.{place-zero, nowhere-runs, Apart, OnlyProcess, Own, settled-only, still-only, Steady, changedTo, SameRunner, runner-same, runner-left, Live, is-live, steady-changed}
+use Rattle.promises.specs.Changes.{listings-most, place-zero, nowhere-runs, Apart, OnlyProcess, Own, settled-only, still-only, Steady, changedTo, SameRunner, runner-same, runner-left, Live, is-live, steady-changed}
 use Rattle.promises.specs.KeptReady.{left-steady, moved-steady, apart-running, apart-ready, runner-place, fits-as, runner-joins-steady, preempted-steady, runs-steady, head-ready, head-top, urgency-zero, urgency-some, none-runs, movable, is-movable}
 
 -- ---- one entry anew, and a move
@@ -279,17 +279,6 @@ free-nowhere (Waiting n) e = absurd (true≢false (sym e))
 free-nowhere (Getting n l) e = absurd (true≢false (sym e))
 free-nowhere (Putting n l) e = absurd (true≢false (sym e))
 free-nowhere (Asleep k) e = absurd (true≢false (sym e))
-
--- Nobody is listed twice
-listings-most : (q : Place) → listings q ≤ 1
-listings-most Nowhere = omega arith
-listings-most Running = omega arith
-listings-most Ready = omega arith
-listings-most Parked = omega arith
-listings-most (Waiting n) = omega arith
-listings-most (Getting n l) = omega arith
-listings-most (Putting n l) = omega arith
-listings-most (Asleep k) = omega arith
 
 -- Who is nowhere stands in no line
 pub nowhere-stands : (x : Line) → stands x Nowhere ≡ false

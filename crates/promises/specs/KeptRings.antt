@@ -26,8 +26,9 @@ use Rattle.tables.specs.Laws.{numbered-zero, numbered-past}
 use Rattle.structures.specs.Structures.{isIn}
 use Rattle.rings.specs.Serving.{asked}
 use Rattle.rings.specs.Changes.{Fit}
-use Rattle.sound.specs.Sound.{placeAt, kindAt, ringAt, parcelAt, listings, users, Runs, Fits, PlaceFits, Kept, none, some, BayFits, free, used, Settled, Still}
+use Rattle.sound.specs.Sound.{placeAt, kindAt, ringAt, parcelAt, listings, users, Runs, Fits, PlaceFits, Kept, none, some, BayFits, free, used, Settled}
 use Rattle.sound.specs.Decided.{Typed}
+use Rattle.promises.specs.Changes.{listings-most}
 
 -- ---- steady: sound but for who is to run
 
@@ -99,17 +100,6 @@ place-short kind size q held (Asleep k) f = omega arith
 pub kept-whole : {parcel : Parcel} → Kept parcel → length (parcel .bytes) ≡ 64
 kept-whole (none e) = rw e length-emptyParcel
 kept-whole (some bytes a h e) = rw e (length-parcelOf bytes h)
-
--- Nobody is listed twice
-listings-most : (place : Place) → listings place ≤ 1
-listings-most Nowhere = omega arith
-listings-most Running = omega arith
-listings-most Ready = omega arith
-listings-most Parked = omega arith
-listings-most (Waiting n) = omega arith
-listings-most (Getting n l) = omega arith
-listings-most (Putting n l) = omega arith
-listings-most (Asleep k) = omega arith
 
 -- Who is listed has a number of the tables
 pub listed-known : {t : Tables} (p : ℕ) → Typed t → Settled t → has p (t .order) ≡ true → p ≤ 32

@@ -5,7 +5,7 @@ use mathlib.Core.Bool.{Bool, true, false, cond}
 use mathlib.Core.List.{List, [], _∷_, _++_}
 use native.Mathlib.Omega.{arith}
 use lib.Dec.{eqb, leb, ltb}
-use lib.ListN.{length, take, drop, List·getD-map}
+use lib.ListN.{length, take, drop}
 use borrow.Author.Tests.{eqb-true, eqb-false, leb-true, leb-false}
 use Rattle.basics.specs.Tests.{test, holds, fails}
 use Rattle.arrivals.specs.Order.{first}
@@ -26,7 +26,6 @@ use Rattle.tables.specs.Numbers.{isSemaphore}
 use Rattle.tables.specs.Lines.{readyLine}
 use Rattle.tables.specs.Access.{numbered, replaced, nobody, nothing, processOf, structureOf, ringIn, parcelFor, withProcess, withStructure, withRing, withParcel}
 use Rattle.tables.specs.Laws.{replaced-zero, replaced-past, replaced-same, replaced-other}
-use Rattle.answers.specs.Answers.{unmoved}
 use Rattle.ready.specs.Ready.{placed, withPlace, joins, runnerJoins, releasedTo, released, letThrough, releasedAll, runs, dispatchedTo, dispatched}
 use Rattle.semaphores.specs.Semaphores as semaphores
 use Rattle.processes.specs.Processes as processes

@@ -16,7 +16,6 @@ use Rattle.bay.specs.declared.Holding.{Holding}
 use Rattle.bay.specs.declared.Holding.the-variants.{Nothing, Bytes}
 use Rattle.bay.specs.Bay.{emptyParcel, parcelOf, putOf, getOf}
 use Rattle.tables.specs.declared.Tables.{Tables}
-use Rattle.tables.specs.declared.Structure.{Structure}
 use Rattle.tables.specs.declared.Kind.{Kind}
 use Rattle.tables.specs.declared.Kind.the-variants as kinds
 use Rattle.tables.specs.declared.Place.{Place}
@@ -24,7 +23,7 @@ use Rattle.tables.specs.declared.Place.the-variants.{Nowhere, Running, Ready, P
 use Rattle.tables.specs.declared.Line.the-variants.{Semaphore, Getters, Putters}
 use Rattle.tables.specs.Numbers.{isSemaphore}
 use Rattle.tables.specs.Access.{structureOf, ringIn, parcelFor, processOf, withProcess, withStructure, withRing, withParcel}
-use Rattle.tables.specs.Lines.{line, stands, standing}
+use Rattle.tables.specs.Lines.{line, standing}
 use Rattle.ready.specs.Ready.{withPlace, joins, released, letThrough}
 use Rattle.records.specs.declared.Record.{Record}
 use Rattle.calls.specs.declared.Deed.{Deed}
@@ -37,7 +36,7 @@ use Rattle.rings.specs.Changes.{getting, putting}
 use Rattle.rings.specs.Laws as rule
 use Rattle.rings.specs.Laws.{Next, neither, next, nobody-goes, nobody-yet, getter-next, putter-next}
 use Rattle.rings.specs.Steps.{has-here, has-behind}
-use Rattle.rings.specs.Serving.{lengthFor, getterGoes, putterGoes, who, inTurn, entered, withMoved, servedGetter, servedPutter, servedAs, service, services, turns, served}
+use Rattle.rings.specs.Serving.{lengthFor, who, inTurn, entered, withMoved, servedGetter, servedPutter, servedAs, service, services, turns, served}
 use Rattle.rings.specs.Rings.{putThrough, putWaits, putBy, putIn, conditionallyPutBy, conditionallyPut, gotFrom, gotThrough, getWaits, gotBy, got, conditionallyGotBy, conditionallyGot, resetIn, resetKind, resetRing, collectedBytes, collectedFrom, collected}
 use Rattle.sound.specs.Sound.{placeAt, kindAt, Settled}
 use Rattle.promises.specs.Changes.{Steady}

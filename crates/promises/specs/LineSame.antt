@@ -4,9 +4,9 @@ use mathlib.Core.Path.{_≡_, refl, sym, ap, _∙_}
 use mathlib.Core.Bool.{Bool, true, false, true≢false}
 use mathlib.Core.List.{List, [], _∷_, map}
 use lib.Dec.{eqb, leb}
-use borrow.Author.Tests.{eq-eqb, eqb-true, eqb-false}
+use borrow.Author.Tests.{eqb-true, eqb-false}
 use Rattle.basics.specs.Tests.{test, holds, fails}
-use Rattle.arrivals.specs.Order.{has, first, movedLast}
+use Rattle.arrivals.specs.Order.{has, first}
 use Rattle.arrivals.specs.Views.{keep-same, moved-other, in-line}
 use Rattle.rings.specs.Steps.{has-here, has-behind}
 use Rattle.tables.specs.declared.Tables.{Tables}

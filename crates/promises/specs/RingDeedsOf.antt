@@ -1,32 +1,25 @@
 -- Every request does one of the deeds at ring n, and nothing else: all 23 calls, refusals, and what is no request.
 use Prim.Native.Nat.{ℕ}
-use mathlib.Core.Path.{_≡_, refl, sym, subst, _∙_}
-use mathlib.Core.Bool.{true, false, true≢false}
+use mathlib.Core.Path.{_≡_, refl, sym, _∙_}
+use mathlib.Core.Bool.{false, true≢false}
 use mathlib.Core.List.{List, [], _∷_}
 use mathlib.Core.Logic.{inl, inr}
 use lib.Dec.{eqb}
 use lib.ListN.{length}
-use borrow.Author.Tests.{eqb-true, eqb-false}
-use Rattle.basics.specs.Tests.{test, holds, fails}
 use Rattle.arrivals.specs.Order.{has}
 use Rattle.tables.specs.declared.Tables.{Tables}
 use Rattle.records.specs.declared.Record.{Record}
-use Rattle.records.specs.Records.{recordLength, recordOf}
 use Rattle.calls.specs.declared.Deed.{Deed}
 use Rattle.calls.specs.declared.Deed.the-variants as deeds
 use Rattle.calls.specs.Calls.{rowOf, callNumber}
-use Rattle.refusals.specs.Refusals.{refusal}
 use Rattle.rings.specs.Steps.{has-behind}
-use Rattle.steps.specs.declared.After.{After}
-use Rattle.steps.specs.Steps.{done, replied, refused, steppedBy, stepped}
+use Rattle.steps.specs.Steps.{done, replied, refused}
 use Rattle.sound.specs.Sound.{Settled}
 use Rattle.promises.specs.Changes.{Steady}
-use Rattle.promises.specs.KeptReady.{sound-steady}
-use Rattle.promises.specs.KeptRingsAccepted.{get-empty}
-use Rattle.promises.specs.Kept.{done-steady, call-known, sleeps-short, deletes-unused, SoundTables}
-use Rattle.promises.specs.Run.{afterBytes, event, handled-request, handled-rubbish, data-long}
+use Rattle.promises.specs.Kept.{call-known, SoundTables}
+use Rattle.promises.specs.Run.{event}
 use Rattle.promises.specs.RingDeeds.{RingDeed}
-use Rattle.promises.specs.Answered.{seen, not-among}
+use Rattle.promises.specs.Answered.{seen, not-among, of-event}
 use Rattle.promises.specs.LineCalls.{ringCalls}
 use Rattle.promises.specs.RingLines.{same-none, same-done}
 use Rattle.promises.specs.RingRests.{callsAt, idle-code, idle-call, same-rests, step-rests, at-ring}
@@ -84,27 +77,8 @@ refused-deed : (n code : ℕ) (t : Tables) (r : Record) → eqb code 0 ≡ false
 unfolding refused
 refused-deed n code t r h = same-rests n (seen t r (refused code t)) (idle-code n (seen t r (refused code t)) h) (same-none n t)
 
--- A request of 72 bytes, accepted or refused
-stepped-deed : (n : ℕ) (t : Tables) (r : Record) → length (r .bytes) ≡ 64 → SoundTables t → RingDeed n (seen t r (stepped t r))
-unfolding stepped steppedBy
-stepped-deed n t r long sound =
-    elim (test (eqb (refusal t r) 0)) [
-      | holds e ↦
-          (let accepted = eqb-true (refusal t r) 0 e in
-          let steady : Steady t = sound-steady t (sound .typed) (sound .sound) in
-          let deed = rowOf (r .what) .deed in
-          rw e (accepted-deed n r t steady long deed (call-known t r accepted)
-          (done-steady deed r t steady long (sleeps-short t r accepted) (deletes-unused t r accepted) (get-empty t r accepted) .settled)))
-      | fails e ↦ rw e (refused-deed n (refusal t r) t r e)
-    ]
-
 -- Any byte string
 pub ring-deed-of : (n : ℕ) (t : Tables) (q : List ℕ) → SoundTables t → RingDeed n (event t q)
-unfolding afterBytes
 ring-deed-of n t q sound =
-    elim (test (eqb (length q) recordLength)) [
-      | holds e ↦
-          (let h = eqb-true (length q) recordLength e in
-          subst (λ (a : After). RingDeed n (seen t (recordOf q) a)) (sym (handled-request t q h)) (stepped-deed n t (recordOf q) (data-long q h) sound))
-      | fails e ↦ subst (λ (a : After). RingDeed n (seen t (recordOf q) a)) (sym (handled-rubbish t q (eqb-false (length q) recordLength e))) (refused-deed n 39 t (recordOf q) refl)
-    ]
+    of-event (RingDeed n) t sound (λ k r done waits. refused-deed n k t r done)
+    (λ r steady long accepted. accepted-deed n r t steady long (rowOf (r .what) .deed) (call-known t r accepted)) q

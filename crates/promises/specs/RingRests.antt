@@ -1,10 +1,10 @@
 -- A request that does nothing at ring n: nothing is put, got or counted anew, and the held bytes stay.
 use Prim.Native.Nat.{ℕ}
 use mathlib.Core.Path.{_≡_, refl, sym, subst, _∙_}
-use mathlib.Core.Bool.{Bool, true, false, not, true≢false}
+use mathlib.Core.Bool.{true, false, not}
 use mathlib.Core.List.{List, [], _∷_, _++_, append-nil}
 use lib.Dec.{eqb}
-use borrow.Author.Tests.{ne-eqb, eqb-true, eqb-false}
+use borrow.Author.Tests.{eqb-true, eqb-false}
 use Rattle.basics.specs.Tests.{test, holds, fails}
 use Rattle.arrivals.specs.Order.{has, keep}
 use Rattle.arrivals.specs.Views.{keep-none}
@@ -15,13 +15,12 @@ use Rattle.tables.specs.Lines.{line}
 use Rattle.answers.specs.declared.Step.{Step}
 use Rattle.answers.specs.Answers.{unmoved}
 use Rattle.records.specs.declared.Record.{Record}
-use Rattle.refusals.specs.Refusals.{both, either}
+use Rattle.refusals.specs.Refusals.{either}
 use Rattle.rings.specs.Steps.{has-behind}
-use Rattle.steps.specs.declared.After.{After}
 use Rattle.steps.specs.Steps.{repliedBy, replied}
 use Rattle.sound.specs.Sound.{Settled}
 use Rattle.promises.specs.Run.{Event}
-use Rattle.promises.specs.Turns.{answered, leftLine, creates, structureBegins, parcelsBytes, put, got, isReset, held}
+use Rattle.promises.specs.Turns.{answered, leftLine, structureBegins, parcelsBytes, put, got, isReset, held}
 use Rattle.promises.specs.RingDeeds.{structureEnds, startsAnew, RingDeed, rests}
 use Rattle.promises.specs.RingLines.{SameRing, same-none, same-then, same-dispatched}
 use Rattle.promises.specs.RingServed.{has-front}

@@ -4,9 +4,9 @@ use mathlib.Core.Path.{_≡_, refl, sym, ap, _∙_}
 use mathlib.Core.Bool.{true, false}
 use mathlib.Core.List.{List, []}
 use native.Mathlib.Omega.{arith}
-use lib.Dec.{eqb, leb}
+use lib.Dec.{eqb}
 use lib.ListN.{length, replicate}
-use borrow.Author.Tests.{eq-eqb, eqb-true, eqb-false, leb-true}
+use borrow.Author.Tests.{eq-eqb, eqb-true, eqb-false}
 use Rattle.basics.specs.Tests.{test, holds, fails}
 use Rattle.bay.specs.declared.Ring as bays
 use Rattle.bay.specs.Bay.{contents, ringOf, emptyBay}
@@ -27,8 +27,8 @@ use Rattle.answers.specs.Answers.{answer, plain, step}
 use Rattle.records.specs.declared.Record.{Record}
 use Rattle.refusals.specs.Refusals.{either}
 use Rattle.steps.specs.Steps.{repliedBy, replied}
-use Rattle.structures.specs.Structures.{isFree, freeNumber, freeBay, numberedAs, createdSemaphore, createdRing, created, deletedAt, deleted}
-use Rattle.structures.specs.Laws.{number-free, bay-free}
+use Rattle.structures.specs.Structures.{isFree, freeNumber, freeBay, numberedAs, created, deletedAt, deleted}
+use Rattle.structures.specs.Laws.{bay-free}
 use Rattle.sound.specs.Sound.{kindAt, Settled}
 use Rattle.promises.specs.Changes.{known-structure, Steady, structuredTo}
 use Rattle.promises.specs.KeptRings.{one-ring}

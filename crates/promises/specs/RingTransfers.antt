@@ -12,7 +12,7 @@ use borrow.Author.Tests.{eq-eqb, ne-eqb, eqb-false}
 use Rattle.basics.specs.Tests.{test, holds, fails}
 use Rattle.bay.specs.declared.Ring as bays
 use Rattle.bay.specs.declared.Parcel.{Parcel}
-use Rattle.bay.specs.Bay.{Good, contents, ringOf, emptyBay, emptyParcel, parcelOf, putOf, getOf, resetOf}
+use Rattle.bay.specs.Bay.{Good, contents, ringOf, emptyParcel, parcelOf, putOf, getOf, resetOf}
 use Rattle.bay.specs.Laws.{length-contents, length-parcelOf, bytesFrom-parcelOf, put-ring, put-good, get-ring, get-good, get-parcelOf, reset-ring, reset-good}
 use Rattle.tables.specs.declared.Tables.{Tables}
 use Rattle.tables.specs.declared.Place.{Place}
@@ -22,26 +22,24 @@ use Rattle.tables.specs.declared.Kind.the-variants as kinds
 use Rattle.tables.specs.declared.Line.{Line}
 use Rattle.tables.specs.declared.Line.the-variants.{Getters, Putters}
 use Rattle.tables.specs.Access.{replaced, processOf, structureOf, ringIn, parcelFor, withParcels, withProcess, withRing, withParcel}
-use Rattle.tables.specs.Laws.{replaced-other}
 use Rattle.tables.specs.Lines.{line, stands}
 use Rattle.answers.specs.declared.Outcome.the-variants.{Waits}
 use Rattle.answers.specs.Answers.{plain, step}
-use Rattle.ready.specs.Ready.{withPlace, joins, runnerJoins, releasedTo, dispatched}
+use Rattle.ready.specs.Ready.{withPlace, joins, runnerJoins, dispatched}
 use Rattle.ready.specs.Laws.{joins-enters, joins-stays, dispatched-only}
 use Rattle.records.specs.declared.Record.{Record}
 use Rattle.refusals.specs.Refusals.{both, either}
 use Rattle.steps.specs.Steps.{repliedBy, replied}
 use Rattle.rings.specs.Serving.{entered, served}
-use Rattle.rings.specs.Changes.{getting, putting, released-out, Fit, fit-ring}
+use Rattle.rings.specs.Changes.{Fit, fit-ring}
 use Rattle.rings.specs.Turns.{nowhere-getting, nowhere-putting}
-use Rattle.rings.specs.Steps.{served-structures, served-rings, served-lines}
+use Rattle.rings.specs.Steps.{served-structures}
 use Rattle.rings.specs.Calls.{holds-then, holds-still, holds-nothing}
 use Rattle.rings.specs.Rings.{putThrough, putWaits, putBy, putIn, conditionallyPutBy, conditionallyPut, gotFrom, gotThrough, getWaits, gotBy, got as gotIn, conditionallyGotBy, conditionallyGot, resetIn, resetKind, resetRing}
 use Rattle.sound.specs.Sound.{kindAt, Settled}
 use Rattle.promises.specs.Changes.{Steady, Apart}
 use Rattle.promises.specs.KeptReady.{apart-running, runner-place}
-use Rattle.promises.specs.KeptRings.{one-ring, the-runner, settled-fit}
-use Rattle.promises.specs.KeptRingsStill.{WaitsAt, getter, putter, waits-apart}
+use Rattle.promises.specs.KeptRings.{the-runner, settled-fit}
 use Rattle.promises.specs.KeptRingsCalls.{serves-ring, Within, way-in, way-out}
 use Rattle.promises.specs.Run.{Event}
 use Rattle.promises.specs.Turns.{answered, creates, structureBegins, isReset, leftLine, parcelsBytes, put, got, held, heldBy}

@@ -5,7 +5,7 @@ use mathlib.Core.Bool.{true, false, not, true≢false}
 use mathlib.Core.List.{List, [], _∷_, _++_}
 use mathlib.Core.Logic.{_⊎_, inl, inr, ⊎-elim}
 use native.Mathlib.Omega.{arith}
-use lib.Dec.{eqb, leb, ltb}
+use lib.Dec.{eqb, ltb}
 use lib.ListN.{length, drop}
 use borrow.Author.Tests.{eq-eqb, ne-eqb, eqb-true, eqb-false, ltb-true, lt-ltb}
 use Rattle.basics.specs.Tests.{test, holds, fails}
@@ -16,7 +16,7 @@ use Rattle.tables.specs.declared.Tables.{Tables}
 use Rattle.tables.specs.declared.Structure.{Structure}
 use Rattle.tables.specs.declared.Kind.{Kind}
 use Rattle.tables.specs.declared.Kind.the-variants as kinds
-use Rattle.tables.specs.declared.Place.the-variants.{Nowhere, Waiting}
+use Rattle.tables.specs.declared.Place.the-variants.{Waiting}
 use Rattle.tables.specs.declared.Line.the-variants.{Semaphore}
 use Rattle.tables.specs.Numbers.{isSemaphore}
 use Rattle.tables.specs.Access.{nothing, processOf, structureOf, withProcess, withStructure, withRing}
@@ -28,30 +28,26 @@ use Rattle.answers.specs.Answers.{plain, step, unmoved}
 use Rattle.ready.specs.Ready.{joins, runnerJoins, withPlace, released, letThrough, dispatched}
 use Rattle.ready.specs.Laws.{joins-enters, release-leaves}
 use Rattle.records.specs.declared.Record.{Record}
-use Rattle.records.specs.Records.{recordLength, recordOf}
 use Rattle.calls.specs.declared.Deed.{Deed}
 use Rattle.calls.specs.declared.Deed.the-variants as deeds
 use Rattle.calls.specs.Calls.{rowOf, callNumber}
-use Rattle.refusals.specs.Refusals.{both, signalsFull, isFull, codes, appliesTo, applies, refusal}
-use Rattle.refusals.specs.Laws.{given-applies}
+use Rattle.refusals.specs.Refusals.{both, signalsFull, isFull, appliesTo, applies, refusal}
 use Rattle.semaphores.specs.Semaphores.{kindOf, withKind, value, lowered, raised, hasLine, waitedAt, waited, conditionallyWaited, signalledAt, signalled, conditionallySignalled, allReleased, allSignalled}
 use Rattle.semaphores.specs.Laws.{no-line, released-apart, all-empties, all-keeps}
 use Rattle.processes.specs.Processes as processes
 use Rattle.structures.specs.Structures as structures
 use Rattle.bay.specs.declared.Ring as bays
 use Rattle.bay.specs.Bay.{ringOf, emptyBay}
-use Rattle.steps.specs.declared.After.{After}
-use Rattle.steps.specs.Steps.{done, repliedBy, replied, refused, steppedBy, stepped}
+use Rattle.steps.specs.Steps.{done, repliedBy, replied, refused}
 use Rattle.sound.specs.Sound.{placeAt, kindAt, ValueFits, Settled}
 use Rattle.promises.specs.Changes.{known-structure, Steady, Live, is-live, Unwaited, unwaited-lines}
-use Rattle.promises.specs.KeptReady.{is-movable, runner-place, sound-steady}
+use Rattle.promises.specs.KeptReady.{is-movable, runner-place}
 use Rattle.promises.specs.KeptSemaphores.{line-movable, head-there, waiting-stands}
-use Rattle.promises.specs.KeptRingsAccepted.{get-empty}
-use Rattle.promises.specs.Kept.{both-second, SoundTables, done-steady, none-refuses, call-known, call-is, sleeps-short, deletes-unused}
-use Rattle.promises.specs.Run.{afterBytes, Event, event, data-long, handled-request, handled-rubbish}
+use Rattle.promises.specs.Kept.{both-second, SoundTables, none-refuses, call-known, call-is, deletes-unused}
+use Rattle.promises.specs.Run.{event}
 use Rattle.promises.specs.Turns.{lineAfter, creates, processBegins, structureBegins}
 use Rattle.promises.specs.SemaphoreDeeds.{risen, StartsAt, DeedAt, rests, passes, joinsLine, raises, releasesHead, freesAll, begins, ends}
-use Rattle.promises.specs.Answered.{seen, both-none, not-among, not-called, not-created}
+use Rattle.promises.specs.Answered.{seen, both-none, not-among, not-called, not-created, of-event}
 use Rattle.promises.specs.LineCalls.{semaphoreCalls}
 use Rattle.promises.specs.SemaphoreShown.{Unasked, uncalled, unnamed, unperformed, nothing-shown, no-newcomer, left-head, left-all, performed-shown}
 use Rattle.promises.specs.SemaphoreSame.{Same, same-none, same-then, kind-now, kind-line, no-head, dispatched-same, ring-same, done-same, structure-same, elsewhere-deleted}
@@ -500,35 +496,8 @@ signals-below t r accepted e =
     let no : both (eqb (r .what) 13) (isFull (structureOf t (r .n) .kind)) ≡ false = none-refuses t r accepted 50 refl in
     rw (eq-eqb (r .what) 13 (call-is t r accepted deeds.Signal e)) at no
 
--- No refusal is given the number 2
-not-2 : (t : Tables) (r : Record) → refusal t r ≡ 2 → ⊥
-unfolding refusal applies appliesTo
-not-2 t r e =
-    let given : applies (refusal t r) t r ≡ true = given-applies (λ k. applies k t r) codes (λ z. let y : _≡_ {A = ℕ} 0 2 = sym z ∙ e in omega arith) in
-    true≢false (sym (rw e at given))
-
--- A request of 72 bytes
-stepped-of : (n : ℕ) (t : Tables) (r : Record) → length (r .bytes) ≡ 64 → SoundTables t → DeedAt n (seen t r (stepped t r))
-unfolding stepped steppedBy
-stepped-of n t r long sound =
-    let steady : Steady t = sound-steady t (sound .typed) (sound .sound) in
-    let deed = rowOf (r .what) .deed in
-    elim (test (eqb (refusal t r) 0)) [
-      | fails k ↦ rw k (refused-of n t r (refusal t r) k (ne-eqb (refusal t r) 2 (not-2 t r)))
-      | holds k ↦
-          let accepted = eqb-true (refusal t r) 0 k in
-          rw k (done-of n t r steady deed (sym (call-known t r accepted)) (signals-below t r accepted) (deletes-unused t r accepted)
-          (done-steady deed r t steady long (sleeps-short t r accepted) (deletes-unused t r accepted) (get-empty t r accepted) .settled))
-    ]
-
 -- Every byte string does one of the deeds at every structure
 pub deed-of : (n : ℕ) (t : Tables) (q : List ℕ) → SoundTables t → DeedAt n (event t q)
-unfolding afterBytes
 deed-of n t q sound =
-    elim (test (eqb (length q) recordLength)) [
-      | holds e ↦
-          let long = eqb-true (length q) recordLength e in
-          subst (λ (a : After). DeedAt n (seen t (recordOf q) a)) (sym (handled-request t q long)) (stepped-of n t (recordOf q) (data-long q long) sound)
-      | fails e ↦
-          subst (λ (a : After). DeedAt n (seen t (recordOf q) a)) (sym (handled-rubbish t q (eqb-false (length q) recordLength e))) (refused-of n t (recordOf q) 39 refl refl)
-    ]
+    of-event (DeedAt n) t sound (λ k r. refused-of n t r k)
+    (λ r steady long accepted. done-of n t r steady (rowOf (r .what) .deed) (sym (call-known t r accepted)) (signals-below t r accepted) (deletes-unused t r accepted)) q
