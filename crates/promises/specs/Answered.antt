@@ -64,6 +64,12 @@ pub not-created : (call n : ℕ) (e : Event) → eqb (e .reply .what) 0 ≡ fals
 unfolding creates
 not-created call n e h = rw h (both-none (eqb (e .request .what) call))
 
+-- ---- the structure that a request names, and the others
+
+-- What is done at the number m that it names, and at every other
+pub here-or-elsewhere : (D : ℕ → Type 0) (n m : ℕ) → D m → ((n ≡ m → ⊥) → D n) → D n
+here-or-elsewhere D n m here elsewhere = elim (test (eqb m n)) [ holds q ↦ subst D (eqb-true m n q) here | fails q ↦ elsewhere (λ e. eqb-false m n q (sym e)) ]
+
 -- ---- any byte string
 
 -- No refusal is given the number 2

@@ -1,11 +1,10 @@
 -- A request that does nothing at ring n: nothing is put, got or counted anew, and the held bytes stay.
 use Prim.Native.Nat.{ℕ}
-use mathlib.Core.Path.{_≡_, refl, sym, subst, _∙_}
+use mathlib.Core.Path.{_≡_, refl, sym, _∙_}
 use mathlib.Core.Bool.{true, false, not}
 use mathlib.Core.List.{List, [], _∷_, _++_, append-nil}
 use lib.Dec.{eqb}
-use borrow.Author.Tests.{eqb-true, eqb-false}
-use Rattle.basics.specs.Tests.{test, holds, fails}
+use borrow.Author.Tests.{ne-eqb}
 use Rattle.arrivals.specs.Order.{has, keep}
 use Rattle.arrivals.specs.Views.{keep-none}
 use Rattle.tables.specs.declared.Tables.{Tables}
@@ -25,7 +24,7 @@ use Rattle.promises.specs.RingDeeds.{structureEnds, startsAnew, RingDeed
 use Rattle.promises.specs.RingLines.{SameRing, same-none, same-then, same-dispatched}
 use Rattle.promises.specs.RingServed.{has-front}
 use Rattle.promises.specs.LineCalls.{ringCalls}
-use Rattle.promises.specs.Answered.{seen, not-among, by-call, by-number, by-code, not-called, not-created}
+use Rattle.promises.specs.Answered.{seen, not-among, by-call, by-number, by-code, not-called, not-created, here-or-elsewhere}
 
 -- Nothing is put, got, or counted anew by it,
 pub record Idle (n : ℕ) (e : Event) : Type 0 where
@@ -102,7 +101,5 @@ unmoved-rests n t r s = step-rests n t r (unmoved t) s (idle-code n (seen t r (r
 -- A step at the ring that is named does a deed there; if that is not ring n, ring n rests
 pub at-ring : (n : ℕ) (t : Tables) (r : Record) (s : Step) → eqb (r .what) 10 ≡ false → RingDeed (r .n) (seen t r (replied s)) → ((n ≡ r .n → ⊥) → SameRing n t (s .tables)) → Settled (s .tables) → RingDeed n (seen t r (replied s))
 at-ring n t r s call own other settled =
-    elim (test (eqb (r .n) n)) [
-      | holds q ↦ subst (λ (k : ℕ). RingDeed k (seen t r (replied s))) (eqb-true (r .n) n q) own
-      | fails q ↦ step-rests n t r s settled (idle-number n (seen t r (replied s)) call q) (other (λ h. eqb-false (r .n) n q (sym h)))
-    ]
+    here-or-elsewhere (λ (k : ℕ). RingDeed k (seen t r (replied s))) n (r .n) own
+    (λ else. step-rests n t r s settled (idle-number n (seen t r (replied s)) call (ne-eqb (r .n) n (λ q. else (sym q)))) (other else))

@@ -47,7 +47,7 @@ use Rattle.promises.specs.Kept.{both-second, SoundTables, none-refuses, 
 use Rattle.promises.specs.Run.{event}
 use Rattle.promises.specs.Turns.{lineAfter, creates, processBegins, structureBegins}
 use Rattle.promises.specs.SemaphoreDeeds.{risen, StartsAt, DeedAt, rests, passes, joinsLine, raises, releasesHead, freesAll, begins, ends}
-use Rattle.promises.specs.Answered.{seen, both-none, not-among, not-called, not-created, of-event}
+use Rattle.promises.specs.Answered.{seen, both-none, not-among, not-called, not-created, here-or-elsewhere, of-event}
 use Rattle.promises.specs.LineCalls.{semaphoreCalls}
 use Rattle.promises.specs.SemaphoreShown.{Unasked, uncalled, unnamed, unperformed, nothing-shown, no-newcomer, left-head, left-all, performed-shown}
 use Rattle.promises.specs.SemaphoreSame.{Same, same-none, same-then, kind-now, kind-line, no-head, dispatched-same, ring-same, done-same, structure-same, elsewhere-deleted}
@@ -430,14 +430,6 @@ delete-of n t r steady what none settled =
 -- ---- every accepted request
 
 module _ (n : ℕ) (t : Tables) (r : Record) (steady : Steady t) where
-  -- At the structure that it names, or elsewhere
-  here-or-elsewhere : (s : Step) → DeedAt (r .n) (seen t r (replied s)) → ((n ≡ r .n → ⊥) → DeedAt n (seen t r (replied s))) → DeedAt n (seen t r (replied s))
-  here-or-elsewhere s here elsewhere =
-      elim (test (eqb (r .n) n)) [
-        | holds q ↦ subst (λ (m : ℕ). DeedAt m (seen t r (replied s))) (eqb-true (r .n) n q) here
-        | fails q ↦ elsewhere (λ x. eqb-false (r .n) n q (sym x))
-      ]
-
   -- A call that is none of the semaphores'
   quiet : (deed : Deed) → r .what ≡ callNumber deed → has (callNumber deed) (10 ∷ 11 ∷ []) ≡ false → eqb (callNumber deed) 2 ≡ false → has (callNumber deed) semaphoreCalls ≡ false
       → Settled (done deed r t .tables) → DeedAt n (seen t r (replied (done deed r t)))
@@ -447,7 +439,7 @@ module _ (n : ℕ) (t : Tables) (r : Record) (steady : Steady t) where
   at-semaphore : (deed : Deed) → r .what ≡ callNumber deed → has (callNumber deed) (10 ∷ 11 ∷ []) ≡ false → eqb (callNumber deed) 2 ≡ false
       → Settled (done deed r t .tables) → DeedAt (r .n) (seen t r (replied (done deed r t))) → DeedAt n (seen t r (replied (done deed r t)))
   at-semaphore deed what structure process settled here =
-      here-or-elsewhere (done deed r t) here (λ other. elsewhere-of n t r deed steady what structure process (λ c. other) settled)
+      here-or-elsewhere (λ (m : ℕ). DeedAt m (seen t r (replied (done deed r t)))) n (r .n) here (λ other. elsewhere-of n t r deed steady what structure process (λ c. other) settled)
 
   -- Delete structure, of another one
   deleted-elsewhere : r .what ≡ 11 → Settled (structures.deleted (r .n) t .tables) → (n ≡ r .n → ⊥) → DeedAt n (seen t r (replied (structures.deleted (r .n) t)))
@@ -473,7 +465,7 @@ module _ (n : ℕ) (t : Tables) (r : Record) (steady : Steady t) where
   done-of deeds.Sleep what signals deletes settled = quiet deeds.Sleep what refl refl refl settled
   done-of deeds.CreateStructure what signals deletes settled = create-structure-of n t r steady what settled
   done-of deeds.DeleteStructure what signals deletes settled =
-      here-or-elsewhere (structures.deleted (r .n) t) (delete-of (r .n) t r steady what (deletes refl) settled) (deleted-elsewhere what settled)
+      here-or-elsewhere (λ (m : ℕ). DeedAt m (seen t r (replied (structures.deleted (r .n) t)))) n (r .n) (delete-of (r .n) t r steady what (deletes refl) settled) (deleted-elsewhere what settled)
   done-of deeds.StructureValue what signals deletes settled = quiet deeds.StructureValue what refl refl refl settled
   done-of deeds.Signal what signals deletes settled = at-semaphore deeds.Signal what refl refl settled (signal-of (r .n) t r steady refl what (signals refl) settled)
   done-of deeds.ConditionalSignal what signals deletes settled = at-semaphore deeds.ConditionalSignal what refl refl settled (conditional-signal-of (r .n) t r steady refl what settled)
