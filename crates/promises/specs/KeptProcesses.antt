@@ -335,7 +335,7 @@ module _ (p priority : ℕ) (t : Tables) (steady : Steady t) (unused : Unused p 
   entry : numbered (replaced (t .processes) p (newcomer priority)) p nobody ≡ newcomer priority
   entry = replaced-same (t .processes) p (newcomer priority) nobody (unused .some) (unused .known)
 
-  pub entry-place : placeAt (replaced (t .processes) p (newcomer priority)) p ≡ Ready
+  entry-place : placeAt (replaced (t .processes) p (newcomer priority)) p ≡ Ready
   entry-place = ap (λ (q : Process). q .place) entry
 
   -- It is listed in place of a zero
@@ -352,7 +352,7 @@ module _ (p priority : ℕ) (t : Tables) (steady : Steady t) (unused : Unused p 
       ∙ rw is (append-nil (keep (standing x (t .processes)) (t .order)))
 
   -- Only p changed,
-  pub began-only : OnlyProcess p t began
+  began-only : OnlyProcess p t began
   unfolding SameRunner
   began-only =
       record {
@@ -430,7 +430,7 @@ module _ (t : Tables) (steady : Steady t) (z : t .running ≡ 0 → ⊥) where
   no-entry : numbered (replaced (t .processes) caller nobody) caller nobody ≡ nobody
   no-entry = replaced-same (t .processes) caller nobody nobody z (was-live .known)
 
-  pub no-place : placeAt (replaced (t .processes) caller nobody) caller ≡ Nowhere
+  no-place : placeAt (replaced (t .processes) caller nobody) caller ≡ Nowhere
   no-place = ap (λ (q : Process). q .place) no-entry
 
   no-parcel : parcelAt (replaced (t .parcels) caller emptyParcel) caller ≡ emptyParcel
@@ -449,7 +449,7 @@ module _ (t : Tables) (steady : Steady t) (z : t .running ≡ 0 → ⊥) where
       (t .order) (ap (stands x) (place-zero (replaced (t .processes) caller nobody) 0 refl) ∙ nowhere-stands x) was (ap (stands x) no-place ∙ nowhere-stands x)
 
   -- Only it changed,
-  pub ended-only : OnlyProcess caller t ended
+  ended-only : OnlyProcess caller t ended
   unfolding SameRunner
   ended-only =
       record {

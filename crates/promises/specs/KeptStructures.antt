@@ -156,17 +156,20 @@ created-ring size t steady some most z y =
 
 -- What creation does, by the kind and the amount: nothing, or a structure with the lowest free number and, if it is a ring, in the lowest free bay
 module _ (kind amount : ℕ) (t : Tables) (P : Step → Type 0) (none : P (unmoved t)) where
-  -- The number, and the bay
+  -- The number,
   abbrev n : ℕ
   n = freeNumber (t .structures)
 
+  -- and the bay
   abbrev b : ℕ
   b = freeBay (t .structures)
 
+  -- A semaphore, where there is a number
   semaphore-by : (k : Kind) → ((n ≡ 0 → ⊥) → P (numberedAs n k t)) → P (createdSemaphore n k t)
   unfolding createdSemaphore
   semaphore-by k new = elim (test (eqb n 0)) [ holds z ↦ rw z none | fails z ↦ rw z (new (eqb-false n 0 z)) ]
 
+  -- A ring, where there is a number and a bay
   ring-by : ((n ≡ 0 → ⊥) → (b ≡ 0 → ⊥) → P (numberedAs n (kinds.Ring b) (withRing t b (ringOf 0 amount [])))) → P (createdRing n b amount t)
   unfolding createdRing
   ring-by new =

@@ -47,13 +47,14 @@ use Rattle.promises.specs.LineSame.{Part, SamePart, Off, part-none, part
 
 -- ---- semaphores
 
--- A semaphore stays one when its value falls or rises
+-- A semaphore stays one when its value falls
 lowered-semaphore : (kind : Kind) → isSemaphore (lowered kind) ≡ isSemaphore kind
 lowered-semaphore kinds.Free = refl
 lowered-semaphore (kinds.Binary v) = refl
 lowered-semaphore (kinds.Counting v) = refl
 lowered-semaphore (kinds.Ring b) = refl
 
+-- or rises
 raised-semaphore : (kind : Kind) → isSemaphore (raised kind) ≡ isSemaphore kind
 raised-semaphore kinds.Free = refl
 raised-semaphore (kinds.Binary v) = refl
@@ -129,11 +130,13 @@ module _ (part : Part) (m : ℕ) (t : Tables) (apart : SemaphoreApart part m t) 
 of-either : (Q : ℕ → Type 0) (x p : ℕ) (l : List ℕ) → has p (x ∷ l) ≡ true → Q x → (has p l ≡ true → Q p) → Q p
 of-either Q x p l h one other = elim (test (eqb x p)) [ holds e ↦ subst Q (eqb-true x p e) one | fails e ↦ other (rw e at h) ]
 
--- Whom the rule serves stands in one of the two lines, so what holds of all there holds of him
+-- Whom the rule serves stands in one of the two lines, so what holds of all there holds of it
 module _ (Q : ℕ → Type 0) (k : List ℕ) (size : ℕ) where
+  -- It holds of all of a list
   abbrev All : List ℕ → Type 0
   All l = (p : ℕ) → has p l ≡ true → Q p
 
+  -- One turn more,
   who-next : (m : ℕ) → ((held : ℕ) (gs ps : List ℕ) → All gs → All ps → All (who m k size held gs ps))
       → {held : ℕ} {gs ps : List ℕ} → Next k size held gs ps → All gs → All ps → All (who (suc m) k size held gs ps)
   who-next m so {held} {gs} {ps} (rule.getter x rest g) a b p h =
@@ -144,6 +147,7 @@ module _ (Q : ℕ → Type 0) (k : List ℕ) (size : ℕ) where
       (so (held + lengthFor k x) gs rest a (λ y i. b y (has-behind x y rest i)) p)
   who-next m so {held} {gs} {ps} (neither g f) a b p h = absurd (true≢false (sym h ∙ ap (has p) (nobody-goes (suc m) k size held gs ps g f)))
 
+  -- so all turns
   who-all : (m held : ℕ) (gs ps : List ℕ) → All gs → All ps → All (who m k size held gs ps)
   who-all zero held gs ps a b p h = absurd (true≢false (sym h ∙ ap (has p) (nobody-yet k size held gs ps)))
   who-all (suc m) held gs ps a b p h = who-next m (who-all m) (next k size held gs ps) a b p h
@@ -180,7 +184,7 @@ module _ (part : Part) (m : ℕ) (t : Tables) (apart : RingApart part m t) where
       released-structures p (withParcel (withRing u b ring) p parcel) ∙ e,
     )
 
-    -- One who stands in none of the part's lines is served, by the place where he stands
+    -- One who stands in none of the part's lines is served, by its place
     service-same : (p : ℕ) (place : Place) (u : Tables) → u .structures ≡ t .structures → Off part (placeAt (u .processes) p)
         → SamePart part u (servedAs b p place u) × (servedAs b p place u .structures ≡ t .structures)
     unfolding servedAs servedGetter servedPutter withMoved entered
@@ -272,10 +276,11 @@ collected-same part t bytes (Bytes l) = parcel-same part (t .running) emptyParce
 
 -- ---- every call but two
 
--- The calls that act at a semaphore, and those that move a ring's bytes
+-- The calls that act at a semaphore,
 abbrev pub semaphoreCalls : List ℕ
 semaphoreCalls = 13 ∷ 14 ∷ 15 ∷ 16 ∷ 17 ∷ []
 
+-- and those that move a ring's bytes
 abbrev pub ringCalls : List ℕ
 ringCalls = 18 ∷ 19 ∷ 20 ∷ 21 ∷ 22 ∷ []
 

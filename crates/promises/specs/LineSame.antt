@@ -56,36 +56,40 @@ module _ (part : Part) where
   abbrev pub Off : Place → Type 0
   Off q = (i : part .Side) → stands (part .side i) q ≡ false
 
-  -- so of a process, by its place,
+  -- so of a process, by its place
   pub off-at : (t : Tables) (p : ℕ) (q : Place) → placeAt (t .processes) p ≡ q → Off q → Off (placeAt (t .processes) p)
   off-at t p q e off i = ap (stands (part .side i)) e ∙ off i
 
-  -- as every place outside the structures' lines is: nobody's,
-  pub off-nowhere : Off Nowhere
+  -- One who is nowhere,
+  off-nowhere : Off Nowhere
   off-nowhere i = part .outside i Nowhere (refl, refl, refl)
 
+  -- one who runs,
   off-running : Off Running
   off-running i = part .outside i Running (refl, refl, refl)
 
+  -- is ready,
   off-ready : Off Ready
   off-ready i = part .outside i Ready (refl, refl, refl)
 
+  -- is parked,
   off-parked : Off Parked
   off-parked i = part .outside i Parked (refl, refl, refl)
 
+  -- or sleeps stands in none of them;
   off-asleep : (k : ℕ) → Off (Asleep k)
   off-asleep k i = part .outside i (Asleep k) (refl, refl, refl)
 
-  -- that of one who is released,
+  -- nor does one who is released,
   off-released : (s : Bool) → Off (releasedTo s)
   off-released true = off-parked
   off-released false = off-ready
 
-  -- number 0's,
+  -- number 0,
   pub off-zero : (t : Tables) (p : ℕ) → p ≡ 0 → Off (placeAt (t .processes) p)
   off-zero t p z = off-at t p Nowhere (place-zero (t .processes) p z) off-nowhere
 
-  -- the runner's,
+  -- the runner,
   pub off-runner : (t : Tables) → Settled t → Off (placeAt (t .processes) (t .running))
   off-runner t s =
       elim (test (eqb (t .running) 0)) [
@@ -93,7 +97,7 @@ module _ (part : Part) where
         | fails z ↦ off-at t (t .running) Running (runner-place t s (eqb-false (t .running) 0 z)) off-running
       ]
 
-  -- and that of the head of the ready line
+  -- or the head of the ready line
   off-head : (t : Tables) → Off (placeAt (t .processes) (first (readyLine t)))
   off-head t =
       let h = first (readyLine t) in

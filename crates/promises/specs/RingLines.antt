@@ -90,11 +90,13 @@ abbrev ringLine : ℕ → Bool → Line
 ringLine n true = Getters n
 ringLine n false = Putters n
 
+-- Who is outside the structures' lines stands in neither
 outside-ring : (n : ℕ) (i : Bool) (q : Place) → Outside q → stands (ringLine n i) q ≡ false
 unfolding stands
 outside-ring n true q o = rw (o .1)
 outside-ring n false q o = rw (o .2)
 
+-- Its two lines, and the bytes that it holds
 unfoldable ringPart : ℕ → Part
 ringPart n = record { Side = Bool; side = ringLine n; outside = outside-ring n; Told = List ℕ; told = held n; told-by = same-bytes n }
 

@@ -59,7 +59,7 @@ idle-call n e h =
     idle n e (not-called 10 n e (other 10 refl)) (λ call k. by-call call n 0 e (other call (has-behind 10 call callsAt k)))
 
 -- It is a call of another number, and no creation
-pub idle-number : (n : ℕ) (e : Event) → eqb (e .request .what) 10 ≡ false → eqb (e .request .n) n ≡ false → Idle n e
+idle-number : (n : ℕ) (e : Event) → eqb (e .request .what) 10 ≡ false → eqb (e .request .n) n ≡ false → Idle n e
 unfolding structureBegins
 idle-number n e h m = idle n e (not-called 10 n e h) (λ call k. by-number call n 0 e m)
 

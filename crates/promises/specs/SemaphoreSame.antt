@@ -46,7 +46,8 @@ same-then a b = record { line-same = b .line-same ∙ a .line-same; kind-same = 
 module _ (n : ℕ) where
   -- ---- the semaphore as a part of the tables
 
-  unfoldable pub semaphorePart : Part
+  -- Its line, and its kind
+  unfoldable semaphorePart : Part
   unfolding stands structureOf
   semaphorePart =
       record {
