@@ -8,7 +8,7 @@ use native.Mathlib.Nat.{mul-le-mul-right}
 use native.Mathlib.Numerals.{add-one}
 use lib.ListN.{length, getD, set, take, length-append}
 use lib.Seq.{length-take-le, take-all, take-suc}
-use Rattle.layout.specs.Pieces.{flat, copiedIn, allTo, part, same}
+use Rattle.layout.specs.Pieces.{flat, copiedIn, allTo}
 use Rattle.layout.specs.PieceLaws.{copied-none, copied-byte, copied-whole, copied-join, flat-append, flat-one, length-flat}
 use Rattle.layout.specs.Typed.{Every, every-at, every-take}
 
@@ -50,10 +50,6 @@ module _ {A : Type 0} (f : A → List ℕ) (w at : ℕ) (l : List A) (s₀ : Lis
 pub allTo-more : (f : ℕ → Bool) (i : ℕ) (ok b : Bool) → ok ≡ allTo i f → b ≡ f i → ok && b ≡ allTo (i + 1) f
 unfolding allTo
 allTo-more f i ok b e g = rw (add-one, e, g)
-
--- Bytes that stand at their place, by what they are
-pub stands : (s b x : List ℕ) (at w : ℕ) (r : Bool) → r ≡ same b (part s at (length b)) → length b ≡ w → b ≡ x → r ≡ same x (part s at w)
-stands s b x at w r e l g = e ∙ rw (l, g)
 
 -- ---- one part behind the other
 

@@ -275,7 +275,9 @@ isState-false s e t typed g = true≢false (sym (encode-isState t typed) ∙ ap 
 
 -- ---- whatever bytes are read, the tables are in range
 
-pick : {A : Type 0} (P : A → Type 0) (b : Bool) {x y : A} → P x → P y → P (cond b x y)
+-- What holds of both holds of the one that is picked
+
+pub pick : {A : Type 0} (P : A → Type 0) (b : Bool) {x y : A} → P x → P y → P (cond b x y)
 pick P true p q = p
 pick P false p q = q
 

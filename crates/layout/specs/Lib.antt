@@ -4,3 +4,4 @@ pub mod Typed
 pub mod PieceLaws
 pub mod Layout
 pub mod Laws
+pub mod Kept

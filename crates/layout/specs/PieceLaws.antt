@@ -183,14 +183,6 @@ unfolding same
 same-refl [] = refl
 same-refl (x ∷ a) = rw (eq-eqb x x refl) (same-refl a)
 
--- One byte more on each side
-pub same-more : (a b : List ℕ) (x y : ℕ) → length a ≡ length b → same (a ++ (x ∷ [])) (b ++ (y ∷ [])) ≡ same a b && eqb x y
-unfolding same
-same-more [] [] x y e = elim (test (eqb x y)) [ holds t ↦ rw t | fails t ↦ rw t ]
-same-more [] (v ∷ b) x y e = absurd (omega arith)
-same-more (u ∷ a) [] x y e = absurd (omega arith)
-same-more (u ∷ a) (v ∷ b) x y e = elim (test (eqb u v)) [ holds t ↦ rw t (same-more a b x y (omega arith)) | fails t ↦ rw t ]
-
 -- All pass exactly if each does
 pub allTo-each : (n : ℕ) (f : ℕ → Bool) → allTo n f ≡ true → (i : ℕ) → i < n → f i ≡ true
 unfolding allTo
@@ -219,14 +211,6 @@ copied-next s at b i h k =
     let room : at + length (take i b) ≤ length s = omega arith in
     rw (copied-byte (copiedIn s at (take i b)) (at + i) (getD b i 0) (rw length-copied (omega arith)), add-one, take-suc b i 0)
     (copied-join s at (at + i) (take i b) (getD b i 0 ∷ []) (omega arith) (omega arith))
-
--- One byte more is compared
-pub same-next : (b s : List ℕ) (at i : ℕ) (ok : Bool) → i < length b → at + length b ≤ length s → ok ≡ same (take i b) (part s at i) → ok && eqb (getD b i 0) (getD s (at + i) 0) ≡ same (take (i + 1) b) (part s at (i + 1))
-unfolding part
-same-next b s at i ok h k e =
-    let room : i < length (drop at s) = rw length-drop (omega arith) in
-    rw (e, add-one, take-suc b i 0, take-suc (drop at s) i 0, getD-drop)
-    (sym (same-more (take i b) (take i (drop at s)) (getD b i 0) (getD s (at + i) 0) (length-take-le i b (omega arith) ∙ sym (length-take-le i (drop at s) (omega arith)))))
 
 -- A part copied over an array of its length
 pub copied-part : (d s l : List ℕ) (from n : ℕ) → from + n ≤ length s → length d ≡ n → l ≡ copiedIn d 0 (take (from + n - from) (drop from s)) → l ≡ part s from n

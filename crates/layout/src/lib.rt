@@ -13,7 +13,7 @@ ghost use Prim.Native.Nat.{_+_, _≤_};
 ghost use lib.ListN.{length};
 ghost use Rattle.tables.specs.Numbers.{amount};
 ghost use Rattle.records.specs.Records.{number, lowFirst};
-ghost use Rattle.layout.specs.Pieces.{flat, entries, part, copiedIn, same};
+ghost use Rattle.layout.specs.Pieces.{flat, entries, part, copiedIn};
 ghost use Rattle.layout.specs.Layout.{
   processesAt,
   structuresAt,
@@ -50,6 +50,15 @@ ghost use Rattle.layout.specs.Layout.{
   holdingsKept,
   isState,
 };
+ghost use Rattle.layout.specs.Kept.{
+  mostSpot,
+  mostAmount,
+  processFits,
+  mostValue,
+  structureFits,
+  mostLength,
+  holdingFits,
+};
 
 // Where each part begins: the control part first, then the bays' bytes, then the parcels'.
 const ORDER: usize = 1;
@@ -79,20 +88,6 @@ fn copy_in(s: &mut [u8], at: usize, b: &[u8])
         s[at + i] = b[i];
         i += 1;
     }
-}
-
-// Do the bytes b stand in s, from its byte `at` on?
-fn stands_at(s: &[u8], at: usize, b: &[u8]) -> bool
-    requires { ⌜ at + length (now b) ≤ length (now s) ⌝ }
-    ensures { λ r. ⌜ r ≡ same (now (b .entry)) (part (now (s .entry)) at (length (now (b .entry)))) ⌝ }
-{
-    let mut ok = true;
-    let mut i = 0;
-    while i < b.len() {
-        ok = ok & (b[i] == s[at + i]);
-        i += 1;
-    }
-    ok
 }
 
 // 1 for true, 0 for false.
@@ -402,79 +397,65 @@ pub fn write(s: &mut [u8], t: Tables)
     write_parcel_bytes(s, parcels);
 }
 
-// The processes in s.
-fn read_processes(s: &[u8]) -> [Process; 32]
-    requires { ⌜ length (now s) ≡ stateLength ⌝ }
-    ensures { λ r. ⌜ r ≡ entries 32 (processIn (now (s .entry))) ⌝ }
-{
-    let mut processes = [tables::nobody(); 32];
-    let mut i = 0;
-    while i < 32 {
-        processes[i] = process_from(s, PROCESSES + i * 8);
-        i += 1;
-    }
-    processes
-}
-
-// The structures in s.
-fn read_structures(s: &[u8]) -> [Structure; 24]
-    requires { ⌜ length (now s) ≡ stateLength ⌝ }
-    ensures { λ r. ⌜ r ≡ entries 24 (structureIn (now (s .entry))) ⌝ }
-{
-    let mut structures = [tables::nothing(); 24];
-    let mut i = 0;
-    while i < 24 {
-        structures[i] = structure_from(s, STRUCTURES + i * 3);
-        i += 1;
-    }
-    structures
-}
-
-// The rings in s, by their bays.
-fn read_rings(s: &[u8]) -> [Ring; 8]
-    requires { ⌜ length (now s) ≡ stateLength ⌝ }
-    ensures { λ r. ⌜ r ≡ entries 8 (bayIn (now (s .entry))) ⌝ }
-{
-    let mut rings = [bay::empty_bay(); 8];
-    let mut i = 0;
-    while i < 8 {
-        rings[i] = bay_from(s, BAYS + i * 6, RING_BYTES + i * 256);
-        i += 1;
-    }
-    rings
-}
-
-// The parcels in s.
-fn read_parcels(s: &[u8]) -> [Parcel; 32]
-    requires { ⌜ length (now s) ≡ stateLength ⌝ }
-    ensures { λ r. ⌜ r ≡ entries 32 (parcelIn (now (s .entry))) ⌝ }
-{
-    let mut parcels = [bay::empty_parcel(); 32];
-    let mut i = 0;
-    while i < 32 {
-        parcels[i] = parcel_from(s, HOLDINGS + i * 2, PARCEL_BYTES + i * 64);
-        i += 1;
-    }
-    parcels
-}
-
-// The tables that stand in s; fresh ones where it has another length than a state's.
+// The tables that stand in s; fresh ones where it has another length than a state's. Each entry is set in its place: a
+// whole table from a helper would be copied once more.
 pub fn read(s: &[u8]) -> Tables
     ensures { λ r. ⌜ r ≡ decode (now (s .entry)) ⌝ }
 {
+    let mut t = tables::fresh();
     if s.len() != LENGTH {
-        return tables::fresh();
+        return t;
     }
-    let mut order = [0u8; 32];
-    copy_in(&mut order, 0, &s[ORDER..PROCESSES]);
-    Tables {
-        running: s[0],
-        order,
-        processes: read_processes(s),
-        structures: read_structures(s),
-        rings: read_rings(s),
-        parcels: read_parcels(s),
+    t.running = s[0];
+    let mut i = 0;
+    while i < 32 {
+        t.order[i] = s[ORDER + i];
+        t.processes[i] = process_from(s, PROCESSES + i * 8);
+        t.parcels[i] = parcel_from(s, HOLDINGS + i * 2, PARCEL_BYTES + i * 64);
+        i += 1;
     }
+    i = 0;
+    while i < 24 {
+        t.structures[i] = structure_from(s, STRUCTURES + i * 3);
+        i += 1;
+    }
+    i = 0;
+    while i < 8 {
+        t.rings[i] = bay_from(s, BAYS + i * 6, RING_BYTES + i * 256);
+        i += 1;
+    }
+    t
+}
+
+// The largest structure number beside a place's number: 0 where the place names no structure.
+fn most_spot(code: u8) -> u8
+    ensures { λ r. ⌜ r ≡ mostSpot code ⌝ }
+{
+    match code {
+        4 => 255,
+        5 => 255,
+        6 => 255,
+        _ => 0,
+    }
+}
+
+// The largest amount beside a place's number: 0 where the place has none.
+fn most_amount(code: u8) -> u32
+    ensures { λ r. ⌜ r ≡ mostAmount code ⌝ }
+{
+    match code {
+        5 => 255,
+        6 => 255,
+        7 => 4294967295,
+        _ => 0,
+    }
+}
+
+// Does reading lose nothing of a process with these numbers?
+fn process_kept(suspended: u8, code: u8, n: u8, k: u32) -> bool
+    ensures { λ r. ⌜ r ≡ processFits suspended code n k ⌝ }
+{
+    (suspended <= 1) & ((code <= 7) & ((n <= most_spot(code)) & (k <= most_amount(code))))
 }
 
 // Does reading lose nothing of the bytes of each process?
@@ -486,11 +467,30 @@ fn processes_kept(s: &[u8]) -> bool
     let mut i = 0;
     while i < 32 {
         let at = PROCESSES + i * 8;
-        let b = process_bytes(process_from(s, at));
-        ok = ok & stands_at(s, at, &b);
+        let k = records::number_of(s[at + 4], s[at + 5], s[at + 6], s[at + 7]);
+        ok = ok & process_kept(s[at + 1], s[at + 2], s[at + 3], k);
         i += 1;
     }
     ok
+}
+
+// The largest value, or bay, beside a kind's number: 0 of a free structure.
+fn most_value(kind: u8) -> u16
+    ensures { λ r. ⌜ r ≡ mostValue kind ⌝ }
+{
+    match kind {
+        1 => 255,
+        2 => 65535,
+        3 => 255,
+        _ => 0,
+    }
+}
+
+// Does reading lose nothing of a structure with these numbers?
+fn structure_kept(kind: u8, v: u16) -> bool
+    ensures { λ r. ⌜ r ≡ structureFits kind v ⌝ }
+{
+    (kind <= 3) & (v <= most_value(kind))
 }
 
 // Does reading lose nothing of the bytes of each structure?
@@ -502,11 +502,28 @@ fn structures_kept(s: &[u8]) -> bool
     let mut i = 0;
     while i < 24 {
         let at = STRUCTURES + i * 3;
-        let b = structure_bytes(structure_from(s, at));
-        ok = ok & stands_at(s, at, &b);
+        let v = pair_of(s[at + 1], s[at + 2]);
+        ok = ok & structure_kept(s[at], v);
         i += 1;
     }
     ok
+}
+
+// The largest length beside what a parcel holds: 0 where it holds nothing.
+fn most_length(k: u8) -> u8
+    ensures { λ r. ⌜ r ≡ mostLength k ⌝ }
+{
+    if k == 1 {
+        return 255;
+    }
+    0
+}
+
+// Does reading lose nothing of a parcel with these numbers?
+fn holding_kept(k: u8, l: u8) -> bool
+    ensures { λ r. ⌜ r ≡ holdingFits k l ⌝ }
+{
+    (k <= 1) & (l <= most_length(k))
 }
 
 // Does reading lose nothing of what each parcel holds?
@@ -518,8 +535,7 @@ fn holdings_kept(s: &[u8]) -> bool
     let mut i = 0;
     while i < 32 {
         let at = HOLDINGS + i * 2;
-        let b = holding_bytes(holding_of(s[at], s[at + 1]));
-        ok = ok & stands_at(s, at, &b);
+        ok = ok & holding_kept(s[at], s[at + 1]);
         i += 1;
     }
     ok

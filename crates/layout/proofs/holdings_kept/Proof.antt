@@ -1,14 +1,14 @@
--- `layout::holdings_kept` meets its contract: at i what the first i parcels hold is compared.
-use native.Mathlib.Nat.{add-zero}
-use Rattle.layout.specs.PieceLaws.{part-bytes}
+-- `layout::holdings_kept` meets its contract: at i the first i parcels are tested.
 use Prim.Native.Nat.{_≤_, _-_, _+_, _*_}
-use mathlib.Core.Path.{_≡_, refl}
+use mathlib.Core.Path.{_≡_, refl, ap, _∙_}
 use native.Mathlib.Omega.{arith}
-use borrow.Author.Needs.{needs}
 use lib.ListN.{length}
-use Rattle.layout.specs.Pieces.{allTo, entries, part}
-use Rattle.layout.specs.Layout.{holdingKept, holdingsAt, holdingBytes, parcelFrom}
-use Rattle.layout.proofs.Laws.{allTo-more, stands}
+use Rattle.records.specs.Records.{Bytes}
+use Rattle.layout.specs.Pieces.{allTo, part}
+use Rattle.layout.specs.Layout.{holdingKept, holdingsAt}
+use Rattle.layout.specs.Kept.{holdingFits, holding-told}
+use Rattle.layout.proofs.Laws.{allTo-more}
+use borrow.Author.Needs.{needs}
 use Rattle.layout.proofs.holdings_kept.Statement.{statement}
 use Rattle.layout.proofs.holdings_kept.Tie as tie
 
@@ -28,26 +28,17 @@ mul-at c = search needs
 add-at : tie.Need-add-at Inv-loop μ-loop
 add-at c = search needs
 
-shared-slice-read-holding-of : tie.Need-shared-slice-read-holding-of Inv-loop μ-loop
-shared-slice-read-holding-of c = search needs
+shared-slice-read-holding-kept : tie.Need-shared-slice-read-holding-kept Inv-loop μ-loop
+shared-slice-read-holding-kept c = search needs
 
-add-holding-of : tie.Need-add-holding-of Inv-loop μ-loop
-add-holding-of c = search needs
+add-holding-kept : tie.Need-add-holding-kept Inv-loop μ-loop
+add-holding-kept c = search needs
 
-shared-slice-read-holding-of-2 : tie.Need-shared-slice-read-holding-of-2 Inv-loop μ-loop
-shared-slice-read-holding-of-2 c = search needs
+shared-slice-read-holding-kept-2 : tie.Need-shared-slice-read-holding-kept-2 Inv-loop μ-loop
+shared-slice-read-holding-kept-2 c = search needs
 
-holding-of-requires : tie.Need-holding-of-requires Inv-loop μ-loop
-holding-of-requires c κs = search needs
-
-holding-bytes-requires : tie.Need-holding-bytes-requires Inv-loop μ-loop
-holding-bytes-requires c κs = search needs
-
-slice-aggregate-stands-at : tie.Need-slice-aggregate-stands-at Inv-loop μ-loop
-slice-aggregate-stands-at c = search needs
-
-stands-at-requires : tie.Need-stands-at-requires Inv-loop μ-loop
-stands-at-requires c κs = search needs
+holding-kept-requires : tie.Need-holding-kept-requires Inv-loop μ-loop
+holding-kept-requires c κs = search needs
 
 add-i : tie.Need-add-i Inv-loop μ-loop
 add-i c = search needs
@@ -56,12 +47,11 @@ loop-less : tie.Need-loop-less Inv-loop μ-loop
 loop-less c = search needs
 
 loop-again : tie.Need-loop-again Inv-loop μ-loop
-unfolding holdingKept holdingBytes parcelFrom entries
 loop-again c =
-    let o = c .before .before .before .before .before .before .before .loop in
-    let s = c .before .before .before .before .before .before .before .before .before .args .s .now in
-    let wide : length (c .before .before .holding-bytes .result) ≡ 2 = search needs in
-    (omega arith, allTo-more _ (o .i) _ _ (o .inv .1) (stands _ _ _ _ _ _ (c .stands-at .ensures) wide (rw (part-bytes s (holdingsAt + o .i * 2) 2 (omega arith), add-zero, c .before .before .holding-bytes .ensures, c .before .before .before .holding-of .ensures))))
+    let o = c .before .before .before .before .loop in
+    let s = c .before .before .before .before .before .before .args .s .now in
+    let bytes : Bytes s = λ i. omega (arith, c .before .before .before .before .before .shared-slice-known .given i) in
+    (omega arith, allTo-more _ (o .i) _ _ (o .inv .1) (c .holding-kept .ensures ∙ holding-told s (holdingsAt + o .i * 2) bytes (omega arith)))
 
 returns : tie.Need-returns Inv-loop μ-loop
 returns c =
@@ -77,13 +67,10 @@ holdings-kept-spec =
     loop-holds
     mul-at
     add-at
-    shared-slice-read-holding-of
-    add-holding-of
-    shared-slice-read-holding-of-2
-    holding-of-requires
-    holding-bytes-requires
-    slice-aggregate-stands-at
-    stands-at-requires
+    shared-slice-read-holding-kept
+    add-holding-kept
+    shared-slice-read-holding-kept-2
+    holding-kept-requires
     add-i
     loop-less
     loop-again

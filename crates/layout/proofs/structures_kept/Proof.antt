@@ -1,12 +1,14 @@
--- `layout::structures_kept` meets its contract: at i the first i structures are compared.
+-- `layout::structures_kept` meets its contract: at i the first i structures are tested.
 use Prim.Native.Nat.{_≤_, _-_, _+_, _*_}
 use mathlib.Core.Path.{_≡_, refl, ap, _∙_}
 use native.Mathlib.Omega.{arith}
-use borrow.Author.Needs.{needs}
 use lib.ListN.{length}
+use Rattle.records.specs.Records.{Bytes}
 use Rattle.layout.specs.Pieces.{allTo, part}
-use Rattle.layout.specs.Layout.{structureKept, structuresAt, structureBytes}
-use Rattle.layout.proofs.Laws.{allTo-more, stands}
+use Rattle.layout.specs.Layout.{structureKept, structuresAt}
+use Rattle.layout.specs.Kept.{structureFits, structure-told}
+use Rattle.layout.proofs.Laws.{allTo-more}
+use borrow.Author.Needs.{needs}
 use Rattle.layout.proofs.structures_kept.Statement.{statement}
 use Rattle.layout.proofs.structures_kept.Tie as tie
 
@@ -26,17 +28,26 @@ mul-at c = search needs
 add-at : tie.Need-add-at Inv-loop μ-loop
 add-at c = search needs
 
-structure-from-requires : tie.Need-structure-from-requires Inv-loop μ-loop
-structure-from-requires c κs = search needs
+add-pair-of : tie.Need-add-pair-of Inv-loop μ-loop
+add-pair-of c = search needs
 
-structure-bytes-requires : tie.Need-structure-bytes-requires Inv-loop μ-loop
-structure-bytes-requires c κs = search needs
+shared-slice-read-pair-of : tie.Need-shared-slice-read-pair-of Inv-loop μ-loop
+shared-slice-read-pair-of c = search needs
 
-slice-aggregate-stands-at : tie.Need-slice-aggregate-stands-at Inv-loop μ-loop
-slice-aggregate-stands-at c = search needs
+add-pair-of-2 : tie.Need-add-pair-of-2 Inv-loop μ-loop
+add-pair-of-2 c = search needs
 
-stands-at-requires : tie.Need-stands-at-requires Inv-loop μ-loop
-stands-at-requires c κs = search needs
+shared-slice-read-pair-of-2 : tie.Need-shared-slice-read-pair-of-2 Inv-loop μ-loop
+shared-slice-read-pair-of-2 c = search needs
+
+pair-of-requires : tie.Need-pair-of-requires Inv-loop μ-loop
+pair-of-requires c κs = search needs
+
+shared-slice-read-structure-kept : tie.Need-shared-slice-read-structure-kept Inv-loop μ-loop
+shared-slice-read-structure-kept c = search needs
+
+structure-kept-requires : tie.Need-structure-kept-requires Inv-loop μ-loop
+structure-kept-requires c κs = search needs
 
 add-i : tie.Need-add-i Inv-loop μ-loop
 add-i c = search needs
@@ -45,11 +56,11 @@ loop-less : tie.Need-loop-less Inv-loop μ-loop
 loop-less c = search needs
 
 loop-again : tie.Need-loop-again Inv-loop μ-loop
-unfolding structureKept
 loop-again c =
-    let o = c .before .before .before .before .before .loop in
-    let wide : length (c .before .before .structure-bytes .result) ≡ 3 = search needs in
-    (omega arith, allTo-more _ (o .i) _ _ (o .inv .1) (stands _ _ _ _ _ _ (c .stands-at .ensures) wide (c .before .before .structure-bytes .ensures ∙ ap structureBytes (c .before .before .before .structure-from .ensures))))
+    let o = c .before .before .before .before .before .before .loop in
+    let s = c .before .before .before .before .before .before .before .before .args .s .now in
+    let bytes : Bytes s = λ i. omega (arith, c .before .before .before .before .before .before .before .shared-slice-known .given i) in
+    (omega arith, allTo-more _ (o .i) _ _ (o .inv .1) (c .structure-kept .ensures ∙ rw (c .before .before .pair-of .ensures) (structure-told s (structuresAt + o .i * 3) bytes (omega arith))))
 
 returns : tie.Need-returns Inv-loop μ-loop
 returns c =
@@ -65,10 +76,13 @@ structures-kept-spec =
     loop-holds
     mul-at
     add-at
-    structure-from-requires
-    structure-bytes-requires
-    slice-aggregate-stands-at
-    stands-at-requires
+    add-pair-of
+    shared-slice-read-pair-of
+    add-pair-of-2
+    shared-slice-read-pair-of-2
+    pair-of-requires
+    shared-slice-read-structure-kept
+    structure-kept-requires
     add-i
     loop-less
     loop-again
