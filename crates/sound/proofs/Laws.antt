@@ -2,13 +2,13 @@
 use Prim.Native.Nat.{ℕ, zero, suc, _+_, _-_, _%_, _≤_, _<_}
 use mathlib.Core.Path.{_≡_, refl, sym, ap, _∙_}
 use mathlib.Core.Bool.{Bool, true, false, cond, not, _&&_, and-true, true≢false}
-use mathlib.Core.List.{List, [], _∷_}
+use mathlib.Core.List.{List, [], _∷_, map}
 use mathlib.Core.Logic.{⊎-elim}
 use native.Mathlib.Omega.{arith}
 use native.Mathlib.Numerals.{add-one}
 use lib.Dec.{eqb, leb}
-use lib.ListN.{length, getD, set, take, drop, replicate, drop-of-length-le, length-replicate, getD-replicate, length-drop}
-use lib.Seq.{slice, slice-cons, drop-cons, length-take-le, take-all}
+use lib.ListN.{length, getD, set, take, drop, replicate, length-map, List·getD-map, drop-of-length-le, length-replicate, getD-replicate, length-drop}
+use lib.Seq.{slice, slice-cons, drop-cons, length-take-le, take-all, take-suc, take-suc-set}
 use borrow.Author.Tests.{eq-eqb, ne-eqb, eqb-true, eqb-false, leb-true, leb-false, le-leb, lt-leb}
 use Rattle.basics.specs.Tests.{test, holds, fails}
 use Rattle.arrivals.specs.Order.{one, count, has, keep, first}
@@ -34,7 +34,7 @@ use Rattle.bay.specs.Bay.{emptyBay}
 use Rattle.rings.specs.Serving.{asked, lengthsOf, lengthFor, getterGoes, putterGoes}
 use Rattle.rings.specs.Serving.{getterCan, putterCan}
 use Rattle.rings.specs.Changes.{length-of}
-use Rattle.sound.specs.Tested.{rankOf, rankTested, bayTested, restsTested, stillTested, listedTested, runsTested, placeTested, keptTested, fitsTested, processTested, every, allZero, keptAs, clearTested, named, listingsOf, usersOf, headsOf, standsIn}
+use Rattle.sound.specs.Tested.{rankOf, rankTested, bayTested, sizesOf, heldOf, entryTested, neitherGoes, restsAt, orderTested, valueTested, urgencyTested, settledTested, soundB, stillTested, stillnessTested, listedTested, runsTested, placeTested, keptTested, fitsTested, processTested, every, allZero, keptAs, clearTested, named, listingsOf, usersOf, headsOf, standsIn}
 use Rattle.sound.specs.Sound.{bayOf, users, placeAt, kindAt, ringAt, parcelAt}
 use Rattle.structures.specs.Structures.{isIn}
 
@@ -247,23 +247,45 @@ entry-named g l n k w d e long at =
       ]
     ]
 
--- The kind of structure n, and a number of the ring in bay b
+-- The kind of structure n, and the number of bay b
 pub kind-seen : (structures : List Structure) (n m k : ℕ) {kind : Kind} (d : Structure) → length structures ≡ 24 → k ≡ (n + 23) % 24 → kind ≡ named 24 n (getD structures k d .kind) Free → n ≡ m → kind ≡ kindAt structures m
 kind-seen structures n m k d long at e same =
     e ∙ sym (entry-named (λ (s : Structure). s .kind) structures n k 24 nothing d long (λ z h. omega arith)) ∙ ap (kindAt structures) same
 
-pub amount-seen : (g : bays.Ring → ℕ) (rings : List bays.Ring) (b m k : ℕ) {amount : ℕ} (d : bays.Ring) → g emptyBay ≡ 0 → length rings ≡ 8 → k ≡ (b + 7) % 8 → amount ≡ named 8 b (g (getD rings k d)) 0 → b ≡ m → amount ≡ g (ringAt rings m)
-amount-seen g rings b m k d none long at e same =
-    e ∙ ap (named 8 b (g (getD rings k d))) (sym none) ∙ sym (entry-named g rings b k 8 emptyBay d long (λ z h. omega arith)) ∙ ap (λ (x : ℕ). g (ringAt rings x)) same
+pub amount-seen : (amounts : List ℕ) (b m k : ℕ) {amount : ℕ} → length amounts ≡ 8 → k ≡ (b + 7) % 8 → amount ≡ named 8 b (getD amounts k 0) 0 → b ≡ m → amount ≡ numbered amounts m 0
+amount-seen amounts b m k long at e same =
+    e ∙ sym (entry-named (λ (x : ℕ). x) amounts b k 8 0 0 long (λ z h. omega arith)) ∙ ap (λ (x : ℕ). numbered amounts x 0) same
+
+-- What is noted of each entry, by its number
+numbered-of : {A B : Type 0} (f : A → B) (l : List A) (n : ℕ) (d : A) → numbered (map f l) n (f d) ≡ f (numbered l n d)
+unfolding numbered
+numbered-of f l n d = elim (test (eqb n 0)) [ holds z ↦ rw z | fails z ↦ rw z (List·getD-map f l (n - 1) d) ]
 
 -- an empty bay has neither size nor bytes
-pub no-size : emptyBay .size ≡ 0
+no-size : emptyBay .size ≡ 0
 unfolding emptyBay
 no-size = refl
 
-pub no-bytes : emptyBay .held ≡ 0
+no-bytes : emptyBay .held ≡ 0
 unfolding emptyBay
 no-bytes = refl
+
+size-of : (rings : List bays.Ring) (b : ℕ) → numbered (sizesOf rings) b 0 ≡ ringAt rings b .size
+unfolding sizesOf
+size-of rings b = ap (numbered (map (λ (r : bays.Ring). r .size) rings) b) (sym no-size) ∙ numbered-of (λ (r : bays.Ring). r .size) rings b emptyBay
+
+held-of : (rings : List bays.Ring) (b : ℕ) → numbered (heldOf rings) b 0 ≡ ringAt rings b .held
+unfolding heldOf
+held-of rings b = ap (numbered (map (λ (r : bays.Ring). r .held) rings) b) (sym no-bytes) ∙ numbered-of (λ (r : bays.Ring). r .held) rings b emptyBay
+
+-- One more is noted, and all are
+pub noted : {A : Type 0} (f : A → ℕ) (l : List A) (m : List ℕ) (i : ℕ) (d : A) → i < length l → i < length m → take i m ≡ take i (map f l) → take (i + 1) (set m i (f (getD l i d))) ≡ take (i + 1) (map f l)
+noted f l m i d h k e =
+    let room : i < length (map f l) = rw (length-map l f) h in
+    rw (add-one, take-suc-set m i (f (getD l i d)) k, take-suc (map f l) i (f d) room, e, List·getD-map f l i d)
+
+pub noted-all : {A : Type 0} (f : A → ℕ) (l : List A) (m : List ℕ) (n : ℕ) → length l ≡ n → length m ≡ n → take n m ≡ take n (map f l) → m ≡ map f l
+noted-all f l m n h k e = sym (take-all n m (omega arith)) ∙ e ∙ take-all n (map f l) (omega (arith, length-map l f))
 
 -- The entry that the loops over the order read for x
 pub code-seen : (c : ℕ) (ps : List Process) (x k : ℕ) (b : Bool) (d : Process) → 1 ≤ c → length ps ≡ 32 → k ≡ (x + 31) % 32 → b ≡ cond (isNumber x) (eqb (code (getD ps k d .place)) c) false → eqb (code (placeAt ps x)) c ≡ b
@@ -339,24 +361,63 @@ pub bay-turn : (uses : ℕ) (rings : List bays.Ring) (i : ℕ) (d : bays.Ring) �
 bay-turn uses rings i d h = ap (bayTested uses) (sym (next-entry rings i emptyBay d h))
 
 -- A structure's heads
-pub still-turn : (t : Tables) (n : ℕ) (kind : Kind) (size held g wants p brings : ℕ)
-    → size ≡ ringAt (t .rings) (bayOf kind) .size → held ≡ ringAt (t .rings) (bayOf kind) .held
-    → g ≡ first (keep (standsIn 5 (t .processes) n) (t .order)) → p ≡ first (keep (standsIn 6 (t .processes) n) (t .order))
-    → ((g ≡ 0 → ⊥) → wants ≡ asked (placeAt (t .processes) g)) → ((p ≡ 0 → ⊥) → brings ≡ asked (placeAt (t .processes) p))
-    → restsTested kind size held g wants p brings ≡ stillTested n t kind
-unfolding restsTested stillTested
-still-turn t n Free size held g wants p brings a b e f u v = refl
-still-turn t n (Binary k) size held g wants p brings a b e f u v = refl
-still-turn t n (Counting k) size held g wants p brings a b e f u v = refl
-still-turn t n (Ring c) size held g wants p brings a b e f u v = rw (getter-is t n c held g wants b e u, putter-is t n c size held p brings a b f v)
+goes-same : (p asked known most : ℕ) → ((p ≡ 0 → ⊥) → asked ≡ known) → cond (eqb p 0) false (leb asked most) ≡ cond (eqb p 0) false (leb known most)
+goes-same p asked known most e = elim (test (eqb p 0)) [ holds z ↦ rw z | fails z ↦ rw (z, e (eqb-false p 0 z)) ]
+
+room-same : (p asked known held size : ℕ) → ((p ≡ 0 → ⊥) → asked ≡ known) → cond (eqb p 0) false (leb (held + asked) size) ≡ cond (eqb p 0) false (leb (held + known) size)
+room-same p asked known held size e = elim (test (eqb p 0)) [ holds z ↦ rw z | fails z ↦ rw (z, e (eqb-false p 0 z)) ]
+
+module _ (ps : List Process) (structures : List Structure) (sizes held getters putters : List ℕ) (n : ℕ) {kind : Kind} (is : kindAt structures n ≡ kind) where
+  pub rests-turn : {size bytes wants brings : ℕ} {r : Bool} → isRing kind ≡ true → size ≡ numbered sizes (bayOf kind) 0 → bytes ≡ numbered held (bayOf kind) 0
+      → ((getD getters n 0 ≡ 0 → ⊥) → wants ≡ asked (placeAt ps (getD getters n 0))) → ((getD putters n 0 ≡ 0 → ⊥) → brings ≡ asked (placeAt ps (getD putters n 0)))
+      → r ≡ neitherGoes size bytes (getD getters n 0) wants (getD putters n 0) brings → r ≡ restsAt ps structures sizes held getters putters n
+  unfolding restsAt neitherGoes
+  rests-turn {size} {bytes} {wants} {brings} ring a b u v h =
+      h ∙ rw (is, ring, ← a, ← b, goes-same (getD getters n 0) wants _ bytes u, room-same (getD putters n 0) brings _ bytes size v)
+
+  pub rests-other : isRing kind ≡ false → true ≡ restsAt ps structures sizes held getters putters n
+  unfolding restsAt
+  rests-other other = rw (is, other)
+
+still-at : (t : Tables) (n : ℕ) (kind : Kind) → n ≤ 24 → kindAt (t .structures) n ≡ kind → restsAt (t .processes) (t .structures) (sizesOf (t .rings)) (heldOf (t .rings)) (headsOf 5 (t .processes) (t .order)) (headsOf 6 (t .processes) (t .order)) n ≡ stillTested n t kind
+unfolding restsAt stillTested neitherGoes
+still-at t n Free h e = rw e
+still-at t n (Binary k) h e = rw e
+still-at t n (Counting k) h e = rw e
+still-at t n (Ring c) h e =
+    rw (e, getter-is t n c _ _ _ (held-of (t .rings) c) (head-at 5 (t .processes) (t .order) n (omega arith)) (λ z. refl), putter-is t n c _ _ _ _ (size-of (t .rings) c) (held-of (t .rings) c) (head-at 6 (t .processes) (t .order) n (omega arith)) (λ z. refl))
+
+pub still-same : (t : Tables) → every 24 (restsAt (t .processes) (t .structures) (sizesOf (t .rings)) (heldOf (t .rings)) (headsOf 5 (t .processes) (t .order)) (headsOf 6 (t .processes) (t .order))) ≡ stillnessTested t
+unfolding stillnessTested
+still-same t = every-same 24 _ _ (λ n h. still-at t n (kindAt (t .structures) n) h refl)
 
 -- A process
-pub process-turn : (t : Tables) (p : ℕ) {q : Process} {x : Parcel} {times size m : ℕ} {kind : Kind} {listed runs fits kept : Bool}
-    → numbered (t .processes) p nobody ≡ q → parcelAt (t .parcels) p ≡ x → times ≡ count p (t .order) → m ≡ p
-    → kind ≡ kindAt (t .structures) (spot (q .place)) → size ≡ ringAt (t .rings) (bayOf kind) .size
-    → listed ≡ listedTested times (q .place) → runs ≡ runsTested (t .running) (q .place) m → fits ≡ placeTested kind size q (x .holds) (q .place) → kept ≡ keptTested x
-    → ((listed && runs) && (fits && kept)) ≡ processTested t p
-unfolding processTested fitsTested
-process-turn t p a b e f g h i j k l =
+pub process-turn : (running : ℕ) (times : List ℕ) (ps : List Process) (structures : List Structure) (sizes : List ℕ) (parcels : List Parcel) (p : ℕ)
+    {q : Process} {x : Parcel} {size m : ℕ} {kind : Kind} {listed runs fits kept : Bool}
+    → numbered ps p nobody ≡ q → parcelAt parcels p ≡ x → m ≡ p
+    → kind ≡ kindAt structures (spot (q .place)) → size ≡ numbered sizes (bayOf kind) 0
+    → listed ≡ listedTested (getD times p 0) (q .place) → runs ≡ runsTested running (q .place) m → fits ≡ placeTested kind size q (x .holds) (q .place) → kept ≡ keptTested x
+    → ((listed && runs) && (fits && kept)) ≡ entryTested running times ps structures sizes parcels p
+unfolding entryTested
+process-turn running times ps structures sizes parcels p a b f g h i j k l =
     let place = ap (λ (y : Process). y .place) a in
-    rw (i, j, k, l, a, b, e, f, h, g, place)
+    rw (i, j, k, l, a, b, f, h, g, place)
+
+pub entries-same : (t : Tables) → every 32 (entryTested (t .running) (listingsOf (t .order)) (t .processes) (t .structures) (sizesOf (t .rings)) (t .parcels)) ≡ every 32 (processTested t)
+unfolding entryTested processTested fitsTested
+entries-same t =
+    every-same 32 _ _ (λ p h. rw (listed-at (t .order) p (omega arith), size-of (t .rings) (bayOf (kindAt (t .structures) (spot (placeAt (t .processes) p))))))
+
+-- ---- the whole test
+
+module _ (t : Tables) {r : Bool} (sizes held : List ℕ) (same : sizes ≡ sizesOf (t .rings)) where
+  pub processes-told : r ≡ every 32 (entryTested (t .running) (listingsOf (t .order)) (t .processes) (t .structures) sizes (t .parcels)) → r ≡ every 32 (processTested t)
+  processes-told e = e ∙ rw same (entries-same t)
+
+  pub still-told : held ≡ heldOf (t .rings) → r ≡ every 24 (restsAt (t .processes) (t .structures) sizes held (headsOf 5 (t .processes) (t .order)) (headsOf 6 (t .processes) (t .order))) → r ≡ stillnessTested t
+  still-told also e = e ∙ rw (same, also) (still-same t)
+
+-- The parts of the test, each as it was told
+pub sound-is : (t : Tables) {o n p v b s u : Bool} → o ≡ orderTested (t .order) → n ≡ leb (t .running) 32 → p ≡ every 32 (processTested t) → v ≡ every 24 (λ k. valueTested (kindAt (t .structures) k)) → b ≡ every 8 (λ k. bayTested (users k (t .structures)) (ringAt (t .rings) k)) → s ≡ stillnessTested t → u ≡ urgencyTested (t .running) (t .processes) → (o && (n && (p && (v && b)))) && (s && u) ≡ soundB t
+unfolding soundB settledTested
+sound-is t e f g h i j k = rw (e, f, g, h, i, j, k)

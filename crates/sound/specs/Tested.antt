@@ -1,9 +1,9 @@
 -- The test of soundness: of every process, every structure and every bay.
 use Prim.Native.Nat.{ℕ, zero, suc, _+_, _-_}
 use mathlib.Core.Bool.{Bool, true, false, cond, not, _&&_}
-use mathlib.Core.List.{List, [], _∷_}
+use mathlib.Core.List.{List, [], _∷_, map}
 use lib.Dec.{eqb, leb}
-use lib.ListN.{length, take, drop}
+use lib.ListN.{length, getD, take, drop}
 use Rattle.arrivals.specs.Order.{count, zerosFirst, keep, first}
 use Rattle.bay.specs.declared.Ring as bays
 use Rattle.bay.specs.declared.Parcel.{Parcel}
@@ -21,7 +21,7 @@ use Rattle.tables.specs.declared.Kind.the-variants.{Free, Binary, Counting, Rin
 use Rattle.tables.specs.Numbers.{code, spot, isRing}
 use Rattle.tables.specs.Access.{numbered, nobody}
 use Rattle.tables.specs.Lines.{urgency}
-use Rattle.rings.specs.Serving.{getterCan, putterCan}
+use Rattle.rings.specs.Serving.{asked, getterCan, putterCan}
 use Rattle.sound.specs.Sound.{placeAt, kindAt, ringAt, parcelAt, bayOf, listings, users}
 
 -- Does the test pass every number from 1 to n?
@@ -190,7 +190,28 @@ named w n x d = cond (eqb n 0) d (cond (leb n w) x d)
 unfoldable pub rankOf : ℕ → ℕ → ℕ
 rankOf p priority = cond (eqb p 0) 0 (suc priority)
 
--- Could neither head be served, of a structure of this kind?
-unfoldable pub restsTested : Kind → ℕ → ℕ → ℕ → ℕ → ℕ → ℕ → Bool
-restsTested kind size held getter wants putter brings =
-    cond (isRing kind) (not (cond (eqb getter 0) false (leb wants held)) && not (cond (eqb putter 0) false (leb (held + brings) size))) true
+-- The sizes and the held counts of the bays
+unfoldable pub sizesOf : List bays.Ring → List ℕ
+sizesOf rings = map (λ r. r .size) rings
+
+unfoldable pub heldOf : List bays.Ring → List ℕ
+heldOf rings = map (λ r. r .held) rings
+
+-- Process p, by how often each number is listed and by the sizes of the bays
+unfoldable pub entryTested : ℕ → List ℕ → List Process → List Structure → List ℕ → List Parcel → ℕ → Bool
+entryTested running times processes structures sizes parcels p =
+    (listedTested (getD times p 0) (placeAt processes p) && runsTested running (placeAt processes p) p)
+    && (placeTested (kindAt structures (spot (placeAt processes p))) (numbered sizes (bayOf (kindAt structures (spot (placeAt processes p)))) 0) (numbered processes p nobody) (parcelAt parcels p .holds) (placeAt processes p)
+    && keptTested (parcelAt parcels p))
+
+-- Could neither head of a ring's lines be served?
+unfoldable pub neitherGoes : ℕ → ℕ → ℕ → ℕ → ℕ → ℕ → Bool
+neitherGoes size held getter wants putter brings = not (cond (eqb getter 0) false (leb wants held)) && not (cond (eqb putter 0) false (leb (held + brings) size))
+
+-- Structure n, by the sizes and the held counts of the bays and by the heads of the lines: could neither head be served, if it is a ring?
+unfoldable pub restsAt : List Process → List Structure → List ℕ → List ℕ → List ℕ → List ℕ → ℕ → Bool
+restsAt processes structures sizes held getters putters n =
+    cond (isRing (kindAt structures n))
+    (neitherGoes (numbered sizes (bayOf (kindAt structures n)) 0) (numbered held (bayOf (kindAt structures n)) 0)
+    (getD getters n 0) (asked (placeAt processes (getD getters n 0))) (getD putters n 0) (asked (placeAt processes (getD putters n 0))))
+    true

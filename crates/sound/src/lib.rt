@@ -36,15 +36,17 @@ ghost use Rattle.sound.specs.Tested.{
   holdsBytes,
   placeTested,
   keptTested,
-  processTested,
+  entryTested,
   valueTested,
   emptyTested,
   clearTested,
   goodTested,
   bayTested,
-  restsTested,
+  sizesOf,
+  heldOf,
+  neitherGoes,
+  restsAt,
   rankTested,
-  stillnessTested,
   urgencyTested,
   soundB,
 };
@@ -334,27 +336,33 @@ fn parcel_fits(parcel: Parcel) -> bool
     }
 }
 
-// Do all processes fit: are they listed as often as they are live, and does all that goes with their places fit?
-fn processes_fit(t: Tables) -> bool
-    ensures { λ r. ⌜ r ≡ every 32 (processTested t) ⌝ }
+// Do all processes fit: are they listed as often as they are live, and does all that goes with their places fit? The
+// sizes are those of the bays.
+fn processes_fit(
+    running: u8,
+    order: [u8; 32],
+    processes: [Process; 32],
+    structures: [Structure; 24],
+    sizes: [u16; 8],
+    parcels: [Parcel; 32],
+) -> bool
+    ensures { λ r. ⌜ r ≡ every 32 (entryTested running (listingsOf order) processes structures sizes parcels) ⌝ }
 {
-    let order = t.order;
     let times = listings_of(order);
     let mut ok = true;
     let mut i: usize = 0;
     while i < 32 {
-        let process = t.processes[i];
-        let parcel = t.parcels[i];
+        let process = processes[i];
+        let parcel = parcels[i];
         let place = process.place;
         let n = tables::spot_of(place);
-        let structure = t.structures[structure_entry(n)];
+        let structure = structures[structure_entry(n)];
         let entry = structure.kind;
         let kind = kind_named(n, entry);
         let b = bay_of(kind);
-        let ring = t.rings[bay_entry(b)];
-        let size = amount_named(b, ring.size);
+        let size = amount_named(b, sizes[bay_entry(b)]);
         let listed = listed_fits(times[i + 1], place);
-        let runs = runs_fits(t.running, place, (i + 1) as u8);
+        let runs = runs_fits(running, place, (i + 1) as u8);
         let holds = parcel.holds;
         let fits = place_fits(kind, size, process, holds);
         let kept = parcel_fits(parcel);
@@ -438,65 +446,70 @@ fn bay_fits(users: u8, ring: Ring) -> bool
     ring_is_good(ring)
 }
 
-// Do all bays fit?
-fn bays_fit(structures: [Structure; 24], rings: [Ring; 8]) -> bool
-    ensures { λ r. ⌜ r ≡ every 8 (λ b. bayTested (users b structures) (ringAt rings b)) ⌝ }
+// What the test of the bays notes down: whether all fit, and their sizes and held counts.
+struct Bays {
+    fit: bool,
+    sizes: [u16; 8],
+    held: [u16; 8],
+}
+
+// The test of all bays.
+fn bays_of(structures: [Structure; 24], rings: [Ring; 8]) -> Bays
+    ensures { λ r. ⌜ (r .fit ≡ every 8 (λ b. bayTested (users b structures) (ringAt rings b))) × (r .sizes ≡ sizesOf rings) × (r .held ≡ heldOf rings) ⌝ }
 {
     let users = users_of(structures);
-    let mut ok = true;
+    let mut fit = true;
+    let mut sizes = [0u16; 8];
+    let mut held = [0u16; 8];
     let mut i: usize = 0;
     while i < 8 {
         let ring = rings[i];
-        ok = ok & bay_fits(users[i + 1], ring);
+        fit = fit & bay_fits(users[i + 1], ring);
+        sizes[i] = ring.size;
+        held[i] = ring.held;
         i += 1;
     }
-    ok
+    Bays { fit, sizes, held }
 }
 
-// Could neither head of a structure's lines be served, if it is a ring?
-fn still_fits(
-    kind: Kind,
-    size: u16,
-    held: u16,
-    getter: u8,
-    wants: u8,
-    putter: u8,
-    brings: u8,
-) -> bool
-    ensures { λ r. ⌜ r ≡ restsTested kind size held getter wants putter brings ⌝ }
+// Could neither head of a ring's lines be served?
+fn still_fits(size: u16, held: u16, getter: u8, wants: u8, putter: u8, brings: u8) -> bool
+    ensures { λ r. ⌜ r ≡ neitherGoes size held getter wants putter brings ⌝ }
 {
-    if !tables::is_ring(kind) {
-        return true;
-    }
     !rings::getter_goes(getter, wants, held) & !rings::putter_goes(putter, brings, held, size)
 }
 
-// No head of a ring's lines could be served.
-fn still(t: Tables) -> bool
-    ensures { λ r. ⌜ r ≡ stillnessTested t ⌝ }
+// No head of a ring's lines could be served. The sizes and held counts are those of the bays.
+fn still(
+    order: [u8; 32],
+    processes: [Process; 32],
+    structures: [Structure; 24],
+    sizes: [u16; 8],
+    held: [u16; 8],
+) -> bool
+    ensures { λ r. ⌜ r ≡ every 24 (restsAt processes structures sizes held (headsOf 5 processes order) (headsOf 6 processes order)) ⌝ }
 {
-    let order = t.order;
-    let processes = t.processes;
     let getters = heads_of(5, processes, order);
     let putters = heads_of(6, processes, order);
     let mut ok = true;
     let mut i: usize = 0;
     while i < 24 {
-        let structure = t.structures[i];
+        let structure = structures[i];
         let kind = structure.kind;
-        let b = bay_of(kind);
-        let ring = t.rings[bay_entry(b)];
-        let size = amount_named(b, ring.size);
-        let held = amount_named(b, ring.held);
-        let getter = getters[i + 1];
-        let putter = putters[i + 1];
-        let first = t.processes[tables::entry_of(getter)];
-        let second = t.processes[tables::entry_of(putter)];
-        let getting = first.place;
-        let putting = second.place;
-        let wants = rings::asked_in(getting);
-        let brings = rings::asked_in(putting);
-        ok = ok & still_fits(kind, size, held, getter, wants, putter, brings);
+        if tables::is_ring(kind) {
+            let b = bay_of(kind);
+            let size = amount_named(b, sizes[bay_entry(b)]);
+            let bytes = amount_named(b, held[bay_entry(b)]);
+            let getter = getters[i + 1];
+            let putter = putters[i + 1];
+            let first = processes[tables::entry_of(getter)];
+            let second = processes[tables::entry_of(putter)];
+            let getting = first.place;
+            let putting = second.place;
+            let wants = rings::asked_in(getting);
+            let brings = rings::asked_in(putting);
+            ok = ok & still_fits(size, bytes, getter, wants, putter, brings);
+        }
         i += 1;
     }
     ok
@@ -561,23 +574,28 @@ pub fn sound(t: Tables) -> bool
     if !order_fits(order) {
         return false;
     }
-    if 32 < t.running {
-        return false;
-    }
-    if !processes_fit(t) {
+    let running = t.running;
+    if 32 < running {
         return false;
     }
     let structures = t.structures;
+    let rings = t.rings;
+    let bays = bays_of(structures, rings);
+    let sizes = bays.sizes;
+    let held = bays.held;
+    let processes = t.processes;
+    let parcels = t.parcels;
+    if !processes_fit(running, order, processes, structures, sizes, parcels) {
+        return false;
+    }
     if !values_fit(structures) {
         return false;
     }
-    let rings = t.rings;
-    if !bays_fit(structures, rings) {
+    if !bays.fit {
         return false;
     }
-    if !still(t) {
+    if !still(order, processes, structures, sizes, held) {
         return false;
     }
-    let processes = t.processes;
-    urgent(t.running, processes)
+    urgent(running, processes)
 }

@@ -4,22 +4,23 @@ use Rattle.tables.specs.declared.Structure.{Structure}
 use Rattle.tables.specs.Access.{nothing}
 use Rattle.rings.specs.Serving.{asked}
 use Prim.Native.Nat.{ℕ, _+_, _-_, _≤_}
-use mathlib.Core.Path.{_≡_, sym, ap, _∙_}
+use mathlib.Core.Path.{_≡_, refl, sym, ap, _∙_}
+use mathlib.Core.Bool.{true, and-true}
+use mathlib.Core.Logic.{⊎-elim}
 use native.Mathlib.Omega.{arith}
-use borrow.Author.Needs.{needs}
 use lib.ListN.{length, getD}
 use Rattle.basics.specs.Lists.{len-map}
-use Rattle.sound.specs.Sound.{kindAt}
-use Rattle.sound.specs.Tested.{every, headsOf, stillTested, stillnessTested}
+use Rattle.sound.specs.Tested.{every, headsOf, restsAt}
 use Rattle.sound.proofs.Laws as laws
+use borrow.Author.Needs.{needs}
 use Rattle.sound.proofs.still.Statement.{statement}
 use Rattle.sound.proofs.still.Tie as tie
 
 abbrev Inv-loop : tie.InvT-loop
-Inv-loop t getters putters ok₀ i₀ ok i = (i ≤ 24) × (getters ≡ headsOf 5 (t .processes) (t .order)) × (putters ≡ headsOf 6 (t .processes) (t .order)) × (ok ≡ every i (λ n. stillTested n t (kindAt (t .structures) n)))
+Inv-loop processes structures sizes held getters putters ok₀ i₀ ok i = (i ≤ 24) × (length getters ≡ 256) × (length putters ≡ 256) × (ok ≡ every i (restsAt processes structures sizes held getters putters))
 
 abbrev μ-loop : tie.MeasureT-loop
-μ-loop t getters putters ok₀ i₀ ok i = 24 - i
+μ-loop processes structures sizes held getters putters ok₀ i₀ ok i = 24 - i
 
 heads-of-requires : tie.Need-heads-of-requires Inv-loop μ-loop
 heads-of-requires c κs = search needs
@@ -28,13 +29,16 @@ heads-of-requires-2 : tie.Need-heads-of-requires-2 Inv-loop μ-loop
 heads-of-requires-2 c κs = search needs
 
 loop-holds : tie.Need-loop-holds Inv-loop μ-loop
-loop-holds c = (search needs, c .before .heads-of .ensures, c .heads-of2 .ensures, laws.every-none _)
+loop-holds c = (search needs, rw (c .before .heads-of .ensures) (laws.length-heads _ _ _), rw (c .heads-of2 .ensures) (laws.length-heads _ _ _), laws.every-none _)
 
 mul-structure : tie.Need-mul-structure Inv-loop μ-loop
 mul-structure c = search needs
 
-element-copy-out-structure : tie.Need-element-copy-out-structure Inv-loop μ-loop
-element-copy-out-structure c = search needs
+array-copy-out-structure : tie.Need-array-copy-out-structure Inv-loop μ-loop
+array-copy-out-structure c = search needs
+
+is-ring-requires : tie.Need-is-ring-requires Inv-loop μ-loop
+is-ring-requires c κs = search needs
 
 bay-of-requires : tie.Need-bay-of-requires Inv-loop μ-loop
 bay-of-requires c κs = search needs
@@ -42,14 +46,23 @@ bay-of-requires c κs = search needs
 bay-entry-requires : tie.Need-bay-entry-requires Inv-loop μ-loop
 bay-entry-requires c κs = search needs
 
-mul-ring : tie.Need-mul-ring Inv-loop μ-loop
-mul-ring c = search needs
+mul-amount-named : tie.Need-mul-amount-named Inv-loop μ-loop
+mul-amount-named c = search needs
 
-element-copy-out-ring : tie.Need-element-copy-out-ring Inv-loop μ-loop
-element-copy-out-ring c = search needs
+array-read-amount-named : tie.Need-array-read-amount-named Inv-loop μ-loop
+array-read-amount-named c = search needs
 
 amount-named-requires : tie.Need-amount-named-requires Inv-loop μ-loop
 amount-named-requires c κs = search needs
+
+bay-entry-requires-2 : tie.Need-bay-entry-requires-2 Inv-loop μ-loop
+bay-entry-requires-2 c κs = search needs
+
+mul-amount-named-2 : tie.Need-mul-amount-named-2 Inv-loop μ-loop
+mul-amount-named-2 c = search needs
+
+array-read-amount-named-2 : tie.Need-array-read-amount-named-2 Inv-loop μ-loop
+array-read-amount-named-2 c = search needs
 
 amount-named-requires-2 : tie.Need-amount-named-requires-2 Inv-loop μ-loop
 amount-named-requires-2 c κs = search needs
@@ -72,8 +85,8 @@ entry-of-requires c κs = search needs
 mul-first : tie.Need-mul-first Inv-loop μ-loop
 mul-first c = search needs
 
-element-copy-out-first : tie.Need-element-copy-out-first Inv-loop μ-loop
-element-copy-out-first c = search needs
+array-copy-out-first : tie.Need-array-copy-out-first Inv-loop μ-loop
+array-copy-out-first c = search needs
 
 entry-of-requires-2 : tie.Need-entry-of-requires-2 Inv-loop μ-loop
 entry-of-requires-2 c κs = search needs
@@ -81,8 +94,8 @@ entry-of-requires-2 c κs = search needs
 mul-second : tie.Need-mul-second Inv-loop μ-loop
 mul-second c = search needs
 
-element-copy-out-second : tie.Need-element-copy-out-second Inv-loop μ-loop
-element-copy-out-second c = search needs
+array-copy-out-second : tie.Need-array-copy-out-second Inv-loop μ-loop
+array-copy-out-second c = search needs
 
 asked-in-requires : tie.Need-asked-in-requires Inv-loop μ-loop
 asked-in-requires c κs = search needs
@@ -101,35 +114,35 @@ loop-less c = search needs
 
 loop-again : tie.Need-loop-again Inv-loop μ-loop
 loop-again c =
-    let t = c .before .before .before .before .before .before .before .before .before .before .before .before .before .before .before .before .before .before .before .args .t1 in
-    let l = c .before .before .before .before .before .before .before .before .before .before .before .before .before .before .loop in
-    let processes : length (t .processes) ≡ 32 = search (len-map, needs) in
-    let structures : length (t .structures) ≡ 24 = search (len-map, needs) in
-    let rings : length (t .rings) ≡ 8 = search (len-map, needs) in
-    let b = c .before .before .before .before .before .before .before .before .before .before .before .bay-of in
-    let bay = c .before .before .before .before .before .before .before .before .before .before .bay-entry in
-    let getters = ap (λ (m : List ℕ). getD m (l .i + 1) 0) (c .before .before .before .before .before .before .before .before .before .before .before .before .before .before .before .before .heads-of .ensures) ∙ laws.head-at 5 (t .processes) (t .order) (l .i + 1) (omega arith) in
-    let putters = ap (λ (m : List ℕ). getD m (l .i + 1) 0) (c .before .before .before .before .before .before .before .before .before .before .before .before .before .before .before .heads-of2 .ensures) ∙ laws.head-at 6 (t .processes) (t .order) (l .i + 1) (omega arith) in (
+    let a = c .before .before .before .before .before .before .before .args in
+    let l = c .before .before .before .before .loop in
+    let processes : length (a .t2) ≡ 32 = search (len-map, needs) in
+    let structures : length (a .t3) ≡ 24 = search (len-map, needs) in
+    let sizes : length (a .t4) ≡ 8 = search (len-map, needs) in
+    let held : length (a .t5) ≡ 8 = search (len-map, needs) in
+    let is = ap (λ (s : Structure). s .kind) (laws.next-entry (a .t3) (l .i) nothing _ (omega arith)) in
+    let getter = ap (λ (m : List ℕ). getD m (l .i + 1) 0) (c .before .before .before .before .before .before .heads-of .ensures) ∙ laws.head-at 5 (a .t2) (a .order) (l .i + 1) (omega arith) in
+    let putter = ap (λ (m : List ℕ). getD m (l .i + 1) 0) (c .before .before .before .before .before .heads-of2 .ensures) ∙ laws.head-at 6 (a .t2) (a .order) (l .i + 1) (omega arith) in (
       omega arith,
       l .inv .1,
       l .inv .2,
-      laws.turn _ (l .i) (l .ok) (c .still-fits .result) (l .inv .3)
-          (c .still-fits .ensures
-          ∙ laws.still-turn t (l .i + 1) _ _ _ _ _ _ _
-          (laws.amount-seen (λ r. r .size) (t .rings) (b .result) _ _ _ laws.no-size rings (bay .ensures) (c .before .before .before .before .before .before .before .before .amount-named .ensures) (b .ensures))
-          (laws.amount-seen (λ r. r .held) (t .rings) (b .result) _ _ _ laws.no-bytes rings (bay .ensures) (c .before .before .before .before .before .before .before .amount-named2 .ensures) (b .ensures))
-          getters putters
-          (λ z. c .before .before .asked-in .ensures ∙ sym (ap asked (laws.head-entry 5 (t .processes) (t .order) (l .i + 1) _ _ _ (omega arith) processes getters z (c .before .before .before .before .before .before .entry-of .ensures))))
-          (λ z. c .before .asked-in2 .ensures ∙ sym (ap asked (laws.head-entry 6 (t .processes) (t .order) (l .i + 1) _ _ _ (omega arith) processes putters z (c .before .before .before .before .entry-of2 .ensures))))
-          ∙ ap (λ (s : Structure). stillTested (l .i + 1) t (s .kind)) (sym (laws.next-entry (t .structures) (l .i) nothing _ (omega arith)))),
+      ⊎-elim
+          (λ w. rw (w .13) (laws.turn _ (l .i) (l .ok) (w .12 .result) (l .inv .3)
+          (laws.rests-turn (a .t2) (a .t3) (a .t4) (a .t5) _ _ (l .i + 1) is (sym (c .before .is-ring .ensures) ∙ w .0 .taken)
+          (laws.amount-seen (a .t4) (w .1 .result) _ _ sizes (w .2 .ensures) (w .3 .ensures) (w .1 .ensures))
+          (laws.amount-seen (a .t5) (w .1 .result) _ _ held (w .4 .ensures) (w .5 .ensures) (w .1 .ensures))
+          (λ z. w .10 .ensures ∙ ap asked (sym (laws.head-entry 5 (a .t2) (a .order) (l .i + 1) _ _ _ (omega arith) processes getter z (w .6 .ensures))))
+          (λ z. w .11 .ensures ∙ ap asked (sym (laws.head-entry 6 (a .t2) (a .order) (l .i + 1) _ _ _ (omega arith) processes putter z (w .8 .ensures))))
+          (w .12 .ensures))))
+          (λ w. rw (w .1) (sym (and-true (l .ok)) ∙ laws.turn _ (l .i) (l .ok) true (l .inv .3) (laws.rests-other (a .t2) (a .t3) (a .t4) (a .t5) _ _ (l .i + 1) is (sym (c .before .is-ring .ensures) ∙ w .0 .left))))
+          (c .if1 .came),
     )
 
 returns : tie.Need-returns Inv-loop μ-loop
-unfolding stillnessTested
 returns c =
     let l = c .before .loop in
     let all : l .i ≡ 24 = omega arith in
-    rw all at (l .inv .3)
+    rw (all, c .before .before .before .heads-of .ensures, c .before .before .heads-of2 .ensures) at (l .inv .3)
 
 pub still-spec : {M : Type 1} → statement M
 still-spec =
@@ -141,12 +154,16 @@ still-spec =
     heads-of-requires-2
     loop-holds
     mul-structure
-    element-copy-out-structure
+    array-copy-out-structure
+    is-ring-requires
     bay-of-requires
     bay-entry-requires
-    mul-ring
-    element-copy-out-ring
+    mul-amount-named
+    array-read-amount-named
     amount-named-requires
+    bay-entry-requires-2
+    mul-amount-named-2
+    array-read-amount-named-2
     amount-named-requires-2
     add-getter
     array-read-getter
@@ -154,10 +171,10 @@ still-spec =
     array-read-putter
     entry-of-requires
     mul-first
-    element-copy-out-first
+    array-copy-out-first
     entry-of-requires-2
     mul-second
-    element-copy-out-second
+    array-copy-out-second
     asked-in-requires
     asked-in-requires-2
     still-fits-requires
