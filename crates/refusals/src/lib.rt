@@ -9,12 +9,13 @@ use calls::Small;
 use records::Record;
 use tables::Kind;
 use tables::Process;
+use tables::Structure;
 use tables::Tables;
 ghost use mathlib.Core.Path.{_≡_};
 ghost use mathlib.Core.Bool.{not, cond};
 ghost use lib.Dec.{eqb, leb};
 ghost use lib.ListN.{drop};
-ghost use Rattle.tables.specs.Access.{processOf, structureOf, parcelFor};
+ghost use Rattle.tables.specs.Access.{numbered, nobody, nothing, processOf, structureOf, parcelFor};
 ghost use Rattle.tables.specs.Numbers.{isLive};
 ghost use Rattle.calls.specs.Calls.{callNumber, unknown};
 ghost use Rattle.refusals.specs.Refusals.{
@@ -208,8 +209,36 @@ fn dead_process(row: Row, process: Process) -> bool
     }
 }
 
-// The first of 42 to 46 that applies, or 0.
-fn early(t: Tables, r: Record, row: Row) -> u8
+// The process with number p, or nobody, and the kind of structure n, or free.
+fn process_in(processes: [Process; 32], p: u8) -> Process
+    ensures { λ r. ⌜ r ≡ numbered processes p nobody ⌝ }
+{
+    if p == 0 {
+        return tables::nobody();
+    }
+    if 32 < p {
+        return tables::nobody();
+    }
+    let i = (p - 1) as usize;
+    processes[i]
+}
+
+fn structure_in(structures: [Structure; 24], n: u8) -> Structure
+    ensures { λ r. ⌜ r ≡ numbered structures n nothing ⌝ }
+{
+    if n == 0 {
+        return tables::nothing();
+    }
+    if 24 < n {
+        return tables::nothing();
+    }
+    let i = (n - 1) as usize;
+    structures[i]
+}
+
+// The first of 42 to 46 that applies, or 0. N names this process and a structure of this kind.
+fn early(t: Tables, r: Record, row: Row, process: Process, kind: Kind) -> u8
+    requires { ⌜ (process ≡ processOf t (r .n)) × (kind ≡ structureOf t (r .n) .kind) ⌝ }
     ensures { λ s. ⌜ s ≡ firstThat (appliesTo row (r .what) t r) early ⌝ }
 {
     if wrong_caller(row, r.who, t.running) {
@@ -219,15 +248,13 @@ fn early(t: Tables, r: Record, row: Row) -> u8
         return 43;
     }
     let number = row.n;
-    let structure = tables::structure_at(t, r.n);
-    let kind = structure.kind;
     if dead_structure(number, kind) {
         return 44;
     }
     if wrong_kind(number, kind) {
         return 45;
     }
-    if dead_process(row, tables::process_at(t, r.n)) {
+    if dead_process(row, process) {
         return 46;
     }
     0
@@ -289,15 +316,14 @@ fn uncollected(t: Tables, who: u8) -> bool
     holds_bytes(holds)
 }
 
-// Put and get, conditional or not: 48, 49, or 0.
-fn refused_transfer(t: Tables, r: Record) -> u8
+// Put and get, conditional or not: 48, 49, or 0. N names a structure of this kind.
+fn refused_transfer(t: Tables, r: Record, kind: Kind) -> u8
+    requires { ⌜ kind ≡ structureOf t (r .n) .kind ⌝ }
     ensures { λ s. ⌜ s ≡ refusedTransfer t r ⌝ }
 {
     if uncollected(t, r.who) {
         return 48;
     }
-    let structure = tables::structure_at(t, r.n);
-    let kind = structure.kind;
     code_if(above_size(t, r.l, kind), 49)
 }
 
@@ -315,13 +341,11 @@ fn refused_creation(t: Tables, r: Record) -> u8
     code_if(structures::free_bay(structures) == 0, 53)
 }
 
-// The first of 47 to 53 that applies to this deed, or 0.
-fn late(t: Tables, r: Record, deed: Deed) -> u8
+// The first of 47 to 53 that applies to this deed, or 0. N names this process and a structure of this kind.
+fn late(t: Tables, r: Record, deed: Deed, process: Process, kind: Kind) -> u8
+    requires { ⌜ (process ≡ processOf t (r .n)) × (kind ≡ structureOf t (r .n) .kind) ⌝ }
     ensures { λ s. ⌜ s ≡ firstThat (appliesTo unknown (callNumber deed) t r) late ⌝ }
 {
-    let process = tables::process_at(t, r.n);
-    let structure = tables::structure_at(t, r.n);
-    let kind = structure.kind;
     match deed {
         Deed::Unknown => 0,
         Deed::Tick => 0,
@@ -341,10 +365,10 @@ fn late(t: Tables, r: Record, deed: Deed) -> u8
         Deed::SignalAll => 0,
         Deed::Wait => 0,
         Deed::ConditionalWait => 0,
-        Deed::Put => refused_transfer(t, r),
-        Deed::ConditionalPut => refused_transfer(t, r),
-        Deed::Get => refused_transfer(t, r),
-        Deed::ConditionalGet => refused_transfer(t, r),
+        Deed::Put => refused_transfer(t, r, kind),
+        Deed::ConditionalPut => refused_transfer(t, r, kind),
+        Deed::Get => refused_transfer(t, r, kind),
+        Deed::ConditionalGet => refused_transfer(t, r, kind),
         Deed::ResetRing => 0,
         Deed::Collect => 0,
     }
@@ -358,10 +382,15 @@ pub fn refusal(t: Tables, r: Record) -> u8
     if calls::is_unknown(row) {
         return 41;
     }
-    let first = early(t, r, row);
+    let processes = t.processes;
+    let process = process_in(processes, r.n);
+    let structures = t.structures;
+    let structure = structure_in(structures, r.n);
+    let kind = structure.kind;
+    let first = early(t, r, row, process, kind);
     if first != 0 {
         return first;
     }
     let deed = row.deed;
-    late(t, r, deed)
+    late(t, r, deed, process, kind)
 }

@@ -4,12 +4,6 @@ use borrow.Author.Needs.{needs}
 use Rattle.refusals.proofs.late.Statement.{statement}
 use Rattle.refusals.proofs.late.Tie as tie
 
-process-at-requires : tie.Need-process-at-requires
-process-at-requires c κs = search needs
-
-structure-at-requires : tie.Need-structure-at-requires
-structure-at-requires c κs = search needs
-
 enum-told : tie.Need-enum-told
 enum-told c = search needs
 
@@ -123,106 +117,104 @@ enum-told-24 c = search needs
 
 returns : tie.Need-returns
 unfolding appliesTo wrongSuspension uncollected tooLong signalsFull deletesInUse processesFull structuresFull refusedTransfer refusedCreation
-returns c = simp (c .enum-told .given .1, ← c .before .before .structure-at .ensures, ← c .before .before .before .process-at .ensures)
+returns c = simp (c .enum-told .given .1, ← c .before .before .pre .1, ← c .before .before .pre .0)
 
 returns-2 : tie.Need-returns-2
 unfolding appliesTo wrongSuspension uncollected tooLong signalsFull deletesInUse processesFull structuresFull refusedTransfer refusedCreation
-returns-2 c = simp (c .enum-told2 .given .1, ← c .before .before .structure-at .ensures, ← c .before .before .before .process-at .ensures)
+returns-2 c = simp (c .enum-told2 .given .1, ← c .before .before .pre .1, ← c .before .before .pre .0)
 
 returns-3 : tie.Need-returns-3
 unfolding appliesTo wrongSuspension uncollected tooLong signalsFull deletesInUse processesFull structuresFull refusedTransfer refusedCreation
-returns-3 c = simp (c .before .before .enum-told3 .given .1, ← c .code-if .ensures, ← c .before .free-process .ensures, ← c .before .before .before .before .structure-at .ensures, ← c .before .before .before .before .before .process-at .ensures)
+returns-3 c = simp (c .before .before .enum-told3 .given .1, ← c .code-if .ensures, ← c .before .free-process .ensures, ← c .before .before .before .before .pre .1, ← c .before .before .before .before .pre .0)
 
 returns-4 : tie.Need-returns-4
 unfolding appliesTo wrongSuspension uncollected tooLong signalsFull deletesInUse processesFull structuresFull refusedTransfer refusedCreation
-returns-4 c = simp (c .enum-told4 .given .1, ← c .before .before .structure-at .ensures, ← c .before .before .before .process-at .ensures)
+returns-4 c = simp (c .enum-told4 .given .1, ← c .before .before .pre .1, ← c .before .before .pre .0)
 
 returns-5 : tie.Need-returns-5
 unfolding appliesTo wrongSuspension uncollected tooLong signalsFull deletesInUse processesFull structuresFull refusedTransfer refusedCreation
-returns-5 c = simp (c .before .enum-told5 .given .1, ← c .code-if2 .ensures, ← c .before .before .before .before .process-at .ensures)
+returns-5 c = simp (c .before .enum-told5 .given .1, ← c .code-if2 .ensures, ← c .before .before .before .pre .0)
 
 returns-6 : tie.Need-returns-6
 unfolding appliesTo wrongSuspension uncollected tooLong signalsFull deletesInUse processesFull structuresFull refusedTransfer refusedCreation
-returns-6 c = simp (c .before .before .enum-told6 .given .1, ← c .code-if3 .ensures, ← c .before .before .before .before .structure-at .ensures, ← c .before .before .before .before .before .process-at .ensures)
+returns-6 c = simp (c .before .before .enum-told6 .given .1, ← c .code-if3 .ensures, ← c .before .before .before .before .pre .1, ← c .before .before .before .before .pre .0)
 
 returns-7 : tie.Need-returns-7
 unfolding appliesTo wrongSuspension uncollected tooLong signalsFull deletesInUse processesFull structuresFull refusedTransfer refusedCreation
-returns-7 c = simp (c .enum-told7 .given .1, ← c .before .before .structure-at .ensures, ← c .before .before .before .process-at .ensures)
+returns-7 c = simp (c .enum-told7 .given .1, ← c .before .before .pre .1, ← c .before .before .pre .0)
 
 returns-8 : tie.Need-returns-8
 unfolding appliesTo wrongSuspension uncollected tooLong signalsFull deletesInUse processesFull structuresFull refusedTransfer refusedCreation
-returns-8 c = simp (c .enum-told8 .given .1, ← c .before .before .structure-at .ensures, ← c .before .before .before .process-at .ensures)
+returns-8 c = simp (c .enum-told8 .given .1, ← c .before .before .pre .1, ← c .before .before .pre .0)
 
 returns-9 : tie.Need-returns-9
 unfolding appliesTo wrongSuspension uncollected tooLong signalsFull deletesInUse processesFull structuresFull refusedTransfer refusedCreation
-returns-9 c = simp (c .enum-told9 .given .1, ← c .before .before .structure-at .ensures, ← c .before .before .before .process-at .ensures)
+returns-9 c = simp (c .enum-told9 .given .1, ← c .before .before .pre .1, ← c .before .before .pre .0)
 
 returns-10 : tie.Need-returns-10
 unfolding appliesTo wrongSuspension uncollected tooLong signalsFull deletesInUse processesFull structuresFull refusedTransfer refusedCreation
-returns-10 c = simp (c .enum-told10 .given .1, ← c .before .before .structure-at .ensures, ← c .before .before .before .process-at .ensures)
+returns-10 c = simp (c .enum-told10 .given .1, ← c .before .before .pre .1, ← c .before .before .pre .0)
 
 returns-11 : tie.Need-returns-11
 unfolding appliesTo wrongSuspension uncollected tooLong signalsFull deletesInUse processesFull structuresFull refusedTransfer refusedCreation
-returns-11 c = simp (c .before .enum-told11 .given .1, ← c .refused-creation .ensures, ← c .before .before .before .structure-at .ensures, ← c .before .before .before .before .process-at .ensures)
+returns-11 c = simp (c .before .enum-told11 .given .1, ← c .refused-creation .ensures, ← c .before .before .before .pre .1, ← c .before .before .before .pre .0)
 
 returns-12 : tie.Need-returns-12
 unfolding appliesTo wrongSuspension uncollected tooLong signalsFull deletesInUse processesFull structuresFull refusedTransfer refusedCreation
-returns-12 c = simp (c .before .before .enum-told12 .given .1, ← c .code-if4 .ensures, ← c .before .in-lines-of .ensures, ← c .before .before .before .before .structure-at .ensures, ← c .before .before .before .before .before .process-at .ensures)
+returns-12 c = simp (c .before .before .enum-told12 .given .1, ← c .code-if4 .ensures, ← c .before .in-lines-of .ensures, ← c .before .before .before .before .pre .1, ← c .before .before .before .before .pre .0)
 
 returns-13 : tie.Need-returns-13
 unfolding appliesTo wrongSuspension uncollected tooLong signalsFull deletesInUse processesFull structuresFull refusedTransfer refusedCreation
-returns-13 c = simp (c .enum-told13 .given .1, ← c .before .before .structure-at .ensures, ← c .before .before .before .process-at .ensures)
+returns-13 c = simp (c .enum-told13 .given .1, ← c .before .before .pre .1, ← c .before .before .pre .0)
 
 returns-14 : tie.Need-returns-14
 unfolding appliesTo wrongSuspension uncollected tooLong signalsFull deletesInUse processesFull structuresFull refusedTransfer refusedCreation
-returns-14 c = simp (c .before .before .enum-told14 .given .1, ← c .code-if5 .ensures, ← c .before .is-full .ensures, ← c .before .before .before .before .structure-at .ensures, ← c .before .before .before .before .before .process-at .ensures)
+returns-14 c = simp (c .before .before .enum-told14 .given .1, ← c .code-if5 .ensures, ← c .before .is-full .ensures, ← c .before .before .before .before .pre .1, ← c .before .before .before .before .pre .0)
 
 returns-15 : tie.Need-returns-15
 unfolding appliesTo wrongSuspension uncollected tooLong signalsFull deletesInUse processesFull structuresFull refusedTransfer refusedCreation
-returns-15 c = simp (c .enum-told15 .given .1, ← c .before .before .structure-at .ensures, ← c .before .before .before .process-at .ensures)
+returns-15 c = simp (c .enum-told15 .given .1, ← c .before .before .pre .1, ← c .before .before .pre .0)
 
 returns-16 : tie.Need-returns-16
 unfolding appliesTo wrongSuspension uncollected tooLong signalsFull deletesInUse processesFull structuresFull refusedTransfer refusedCreation
-returns-16 c = simp (c .enum-told16 .given .1, ← c .before .before .structure-at .ensures, ← c .before .before .before .process-at .ensures)
+returns-16 c = simp (c .enum-told16 .given .1, ← c .before .before .pre .1, ← c .before .before .pre .0)
 
 returns-17 : tie.Need-returns-17
 unfolding appliesTo wrongSuspension uncollected tooLong signalsFull deletesInUse processesFull structuresFull refusedTransfer refusedCreation
-returns-17 c = simp (c .enum-told17 .given .1, ← c .before .before .structure-at .ensures, ← c .before .before .before .process-at .ensures)
+returns-17 c = simp (c .enum-told17 .given .1, ← c .before .before .pre .1, ← c .before .before .pre .0)
 
 returns-18 : tie.Need-returns-18
 unfolding appliesTo wrongSuspension uncollected tooLong signalsFull deletesInUse processesFull structuresFull refusedTransfer refusedCreation
-returns-18 c = simp (c .enum-told18 .given .1, ← c .before .before .structure-at .ensures, ← c .before .before .before .process-at .ensures)
+returns-18 c = simp (c .enum-told18 .given .1, ← c .before .before .pre .1, ← c .before .before .pre .0)
 
 returns-19 : tie.Need-returns-19
 unfolding appliesTo wrongSuspension uncollected tooLong signalsFull deletesInUse processesFull structuresFull refusedTransfer refusedCreation
-returns-19 c = simp (c .before .enum-told19 .given .1, c .refused-transfer .ensures, c .before .before .before .structure-at .ensures, c .before .before .before .before .process-at .ensures)
+returns-19 c = simp (c .before .enum-told19 .given .1, c .refused-transfer .ensures, c .before .before .before .pre .1, c .before .before .before .pre .0)
 
 returns-20 : tie.Need-returns-20
 unfolding appliesTo wrongSuspension uncollected tooLong signalsFull deletesInUse processesFull structuresFull refusedTransfer refusedCreation
-returns-20 c = simp (c .before .enum-told20 .given .1, c .refused-transfer2 .ensures, c .before .before .before .structure-at .ensures, c .before .before .before .before .process-at .ensures)
+returns-20 c = simp (c .before .enum-told20 .given .1, c .refused-transfer2 .ensures, c .before .before .before .pre .1, c .before .before .before .pre .0)
 
 returns-21 : tie.Need-returns-21
 unfolding appliesTo wrongSuspension uncollected tooLong signalsFull deletesInUse processesFull structuresFull refusedTransfer refusedCreation
-returns-21 c = simp (c .before .enum-told21 .given .1, c .refused-transfer3 .ensures, c .before .before .before .structure-at .ensures, c .before .before .before .before .process-at .ensures)
+returns-21 c = simp (c .before .enum-told21 .given .1, c .refused-transfer3 .ensures, c .before .before .before .pre .1, c .before .before .before .pre .0)
 
 returns-22 : tie.Need-returns-22
 unfolding appliesTo wrongSuspension uncollected tooLong signalsFull deletesInUse processesFull structuresFull refusedTransfer refusedCreation
-returns-22 c = simp (c .before .enum-told22 .given .1, c .refused-transfer4 .ensures, c .before .before .before .structure-at .ensures, c .before .before .before .before .process-at .ensures)
+returns-22 c = simp (c .before .enum-told22 .given .1, c .refused-transfer4 .ensures, c .before .before .before .pre .1, c .before .before .before .pre .0)
 
 returns-23 : tie.Need-returns-23
 unfolding appliesTo wrongSuspension uncollected tooLong signalsFull deletesInUse processesFull structuresFull refusedTransfer refusedCreation
-returns-23 c = simp (c .enum-told23 .given .1, ← c .before .before .structure-at .ensures, ← c .before .before .before .process-at .ensures)
+returns-23 c = simp (c .enum-told23 .given .1, ← c .before .before .pre .1, ← c .before .before .pre .0)
 
 returns-24 : tie.Need-returns-24
 unfolding appliesTo wrongSuspension uncollected tooLong signalsFull deletesInUse processesFull structuresFull refusedTransfer refusedCreation
-returns-24 c = simp (c .enum-told24 .given .1, ← c .before .before .structure-at .ensures, ← c .before .before .before .process-at .ensures)
+returns-24 c = simp (c .enum-told24 .given .1, ← c .before .before .pre .1, ← c .before .before .pre .0)
 
 pub late-spec : {M : Type 1} → statement M
 late-spec =
     tie.close
     (tie.spec
-    process-at-requires
-    structure-at-requires
     enum-told
     enum-told-2
     enum-told-3

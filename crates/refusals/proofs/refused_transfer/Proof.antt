@@ -11,9 +11,6 @@ returns : tie.Need-returns
 unfolding refusedTransfer
 returns c = simp (c .if1 .taken, ← c .before .uncollected .ensures)
 
-structure-at-requires : tie.Need-structure-at-requires
-structure-at-requires c κs = search needs
-
 above-size-requires : tie.Need-above-size-requires
 above-size-requires c κs = search needs
 
@@ -22,7 +19,7 @@ code-if-requires c κs = search needs
 
 returns-2 : tie.Need-returns-2
 unfolding refusedTransfer
-returns-2 c = simp (c .before .before .before .if1 .left, ← c .code-if .ensures, ← c .before .above-size .ensures, ← c .before .before .structure-at .ensures, ← c .before .before .before .before .uncollected .ensures)
+returns-2 c = simp (c .before .before .if1 .left, ← c .code-if .ensures, ← c .before .above-size .ensures, ← c .before .before .before .before .pre, ← c .before .before .before .uncollected .ensures)
 
 pub refused-transfer-spec : {M : Type 1} → statement M
 refused-transfer-spec =
@@ -30,7 +27,6 @@ refused-transfer-spec =
     (tie.spec
     uncollected-requires
     returns
-    structure-at-requires
     above-size-requires
     code-if-requires
     returns-2)
