@@ -209,7 +209,7 @@ fn dead_process(row: Row, process: Process) -> bool
     }
 }
 
-// The process with number p, or nobody, and the kind of structure n, or free.
+// The process with number p, or nobody. Only its table is taken, not all tables.
 fn process_in(processes: [Process; 32], p: u8) -> Process
     ensures { λ r. ⌜ r ≡ numbered processes p nobody ⌝ }
 {
@@ -223,6 +223,7 @@ fn process_in(processes: [Process; 32], p: u8) -> Process
     processes[i]
 }
 
+// The structure with number n, or nothing.
 fn structure_in(structures: [Structure; 24], n: u8) -> Structure
     ensures { λ r. ⌜ r ≡ numbered structures n nothing ⌝ }
 {

@@ -321,6 +321,19 @@ head-entry c ps l n g k d some long e z at =
               absurd (true≢false (sym h ∙ off))
         ]
 
+-- The one before the place i of the order is noted as head, or not
+module _ (c : ℕ) (ps : List Process) (order : List ℕ) (i k : ℕ) (b : Bool) (d : Process) (heads : List ℕ) (some : 1 ≤ c) (long : length ps ≡ 32) (there : 0 < i) (within : i ≤ length order)
+    (at : k ≡ (getD order (i - 1) 0 + 31) % 32) (has : b ≡ cond (isNumber (getD order (i - 1) 0)) (eqb (code (getD ps k d .place)) c) false) (e : heads ≡ headsOf c ps (drop i order)) where
+  pub head-noted : (n : ℕ) → b ≡ true → n ≡ spot (getD ps k d .place) → n < 256 → set heads n (getD order (i - 1) 0) ≡ headsOf c ps (drop (i - 1) order)
+  head-noted n is s small =
+      rw e (one-head c ps (drop (i - 1) order) (drop i order) (getD order (i - 1) 0) n (back order i 0 there within)
+      (code-seen c ps (getD order (i - 1) 0) k b d some long at has ∙ is)
+      (s ∙ sym (ap spot (entry-seen ps (getD order (i - 1) 0) k b _ d long at has is))) small)
+
+  pub head-kept : b ≡ false → heads ≡ headsOf c ps (drop (i - 1) order)
+  head-kept is =
+      e ∙ no-head c ps (drop (i - 1) order) (drop i order) (getD order (i - 1) 0) (back order i 0 there within) (code-seen c ps (getD order (i - 1) 0) k b d some long at has ∙ is)
+
 -- ---- what a turn of each loop tested
 
 -- The rank of process i + 1, and of the runner

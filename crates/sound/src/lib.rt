@@ -127,24 +127,33 @@ fn users_of(structures: [Structure; 24]) -> [u8; 256]
     users
 }
 
-// The heads of the lines whose place number is c, each at the number of its structure.
-fn heads_of(c: u8, processes: [Process; 32], order: [u8; 32]) -> [u8; 256]
-    requires { ⌜ 1 ≤ c ⌝ }
-    ensures { λ r. ⌜ r ≡ headsOf c processes order ⌝ }
+// The head getters and the head putters, each at the number of its ring.
+struct Heads {
+    getters: [u8; 256],
+    putters: [u8; 256],
+}
+
+// The heads of all rings' lines.
+fn heads_of(processes: [Process; 32], order: [u8; 32]) -> Heads
+    ensures { λ r. ⌜ (r .getters ≡ headsOf 5 processes order) × (r .putters ≡ headsOf 6 processes order) ⌝ }
 {
-    let mut heads = [0u8; 256];
+    let mut getters = [0u8; 256];
+    let mut putters = [0u8; 256];
     let mut i: usize = 32;
     while 0 < i {
         i -= 1;
         let x = order[i];
         let entry = processes[tables::entry_of(x)];
         let place = entry.place;
-        if has_code(x, place, c) {
-            let n = tables::spot_of(place) as usize;
-            heads[n] = x;
+        let n = tables::spot_of(place) as usize;
+        if has_code(x, place, 5) {
+            getters[n] = x;
+        }
+        if has_code(x, place, 6) {
+            putters[n] = x;
         }
     }
-    heads
+    Heads { getters, putters }
 }
 
 // Does x, whose entry has this place, have this place number?
@@ -489,8 +498,7 @@ fn still(
 ) -> bool
     ensures { λ r. ⌜ r ≡ every 24 (restsAt processes structures sizes held (headsOf 5 processes order) (headsOf 6 processes order)) ⌝ }
 {
-    let getters = heads_of(5, processes, order);
-    let putters = heads_of(6, processes, order);
+    let heads = heads_of(processes, order);
     let mut ok = true;
     let mut i: usize = 0;
     while i < 24 {
@@ -500,8 +508,8 @@ fn still(
             let b = bay_of(kind);
             let size = amount_named(b, sizes[bay_entry(b)]);
             let bytes = amount_named(b, held[bay_entry(b)]);
-            let getter = getters[i + 1];
-            let putter = putters[i + 1];
+            let getter = heads.getters[i + 1];
+            let putter = heads.putters[i + 1];
             let first = processes[tables::entry_of(getter)];
             let second = processes[tables::entry_of(putter)];
             let getting = first.place;

@@ -1,27 +1,29 @@
 -- `sound::heads_of` meets its contract: from the newest back, whoever stands in a line is noted as its head; the oldest is noted last.
-use Rattle.tables.specs.Numbers.{spot}
 use Prim.Native.Nat.{_-_, _≤_, _<_}
 use mathlib.Core.Path.{_≡_, sym, ap, _∙_}
+use mathlib.Core.Logic.{⊎-elim}
 use native.Mathlib.Omega.{arith}
-use borrow.Author.Needs.{needs}
 use lib.ListN.{length, getD, drop}
 use Rattle.basics.specs.Lists.{len-map}
 use Rattle.sound.specs.Tested.{headsOf}
 use Rattle.sound.proofs.Laws as laws
+use borrow.Author.Needs.{needs}
 use Rattle.sound.proofs.heads_of.Statement.{statement}
 use Rattle.sound.proofs.heads_of.Tie as tie
 
 abbrev Inv-loop : tie.InvT-loop
-Inv-loop c processes order heads₀ i₀ heads i = (1 ≤ c) × (i ≤ 32) × (heads ≡ headsOf c processes (drop i order))
+Inv-loop processes order getters₀ putters₀ i₀ getters putters i = (i ≤ 32) × (getters ≡ headsOf 5 processes (drop i order)) × (putters ≡ headsOf 6 processes (drop i order))
 
 abbrev μ-loop : tie.MeasureT-loop
-μ-loop c processes order heads₀ i₀ heads i = i
+μ-loop processes order getters₀ putters₀ i₀ getters putters i = i
 
 loop-holds : tie.Need-loop-holds Inv-loop μ-loop
 loop-holds c =
-    let order = c .args .t3 in
-    let long : length order ≡ 32 = search (len-map, needs) in
-    (c .pre, search needs, laws.no-heads (c .args .c) (c .args .t2) ∙ sym (ap (headsOf (c .args .c) (c .args .t2)) (laws.behind-all order 32 long)))
+    let order : length (c .args .t2) ≡ 32 = search (len-map, needs) in (
+      search needs,
+      laws.no-heads 5 (c .args .t1) ∙ sym (ap (headsOf 5 (c .args .t1)) (laws.behind-all (c .args .t2) 32 order)),
+      laws.no-heads 6 (c .args .t1) ∙ sym (ap (headsOf 6 (c .args .t1)) (laws.behind-all (c .args .t2) 32 order)),
+    )
 
 sub-i : tie.Need-sub-i Inv-loop μ-loop
 sub-i c = search needs
@@ -38,37 +40,54 @@ mul-entry c = search needs
 array-copy-out-entry : tie.Need-array-copy-out-entry Inv-loop μ-loop
 array-copy-out-entry c = search needs
 
-has-code-requires : tie.Need-has-code-requires Inv-loop μ-loop
-has-code-requires c κs = search needs
-
 spot-of-requires : tie.Need-spot-of-requires Inv-loop μ-loop
 spot-of-requires c κs = search needs
 
 cast-n : tie.Need-cast-n Inv-loop μ-loop
 cast-n c = search needs
 
-array-write-heads : tie.Need-array-write-heads Inv-loop μ-loop
-array-write-heads c = search needs
+has-code-requires : tie.Need-has-code-requires Inv-loop μ-loop
+has-code-requires c κs = search needs
+
+array-write-getters : tie.Need-array-write-getters Inv-loop μ-loop
+array-write-getters c = search needs
+
+has-code-requires-2 : tie.Need-has-code-requires-2 Inv-loop μ-loop
+has-code-requires-2 c κs = search needs
+
+array-write-putters : tie.Need-array-write-putters Inv-loop μ-loop
+array-write-putters c = search needs
 
 loop-less : tie.Need-loop-less Inv-loop μ-loop
 loop-less c = search needs
 
+-- Whoever gets is noted, or nobody is
+getters-noted : (c : tie.After-has-code2 Inv-loop μ-loop) → c .before .if1 .getters ≡ headsOf 5 (c .before .before .before .before .before .before .before .before .args .t1) (drop (c .before .before .before .before .before .before .before .loop .i - 1) (c .before .before .before .before .before .before .before .before .args .t2))
+getters-noted c =
+    let l = c .before .before .before .before .before .before .before .loop in
+    let a = c .before .before .before .before .before .before .before .before .args in
+    let order : length (a .t2) ≡ 32 = search (len-map, needs) in
+    let processes : length (a .t1) ≡ 32 = search (len-map, needs) in
+    let entry = c .before .before .before .before .before .entry-of in
+    let has = c .before .before .has-code in
+    let small : c .before .before .before .spot-of .result < 256 = search needs in
+    ⊎-elim
+    (λ w. w .1 ∙ laws.head-noted 5 (a .t1) (a .t2) (l .i) (entry .result) (has .result) _ (l .getters) (omega arith) processes (omega arith) (omega arith) (entry .ensures) (has .ensures) (l .inv .1) (c .before .before .before .spot-of .result) (w .0 .taken) (c .before .before .before .spot-of .ensures) small)
+    (λ w. w .1 ∙ laws.head-kept 5 (a .t1) (a .t2) (l .i) (entry .result) (has .result) _ (l .getters) (omega arith) processes (omega arith) (omega arith) (entry .ensures) (has .ensures) (l .inv .1) (w .0 .left))
+    (c .before .if1 .came)
+
 loop-again : tie.Need-loop-again Inv-loop μ-loop
 loop-again c =
-    let l = c .before .before .before .before .before .before .loop in
-    let a = c .before .before .before .before .before .before .before .args in
-    let order : length (a .t3) ≡ 32 = search (len-map, needs) in
-    let processes : length (a .t2) ≡ 32 = search (len-map, needs) in
-    let small : c .spot-of .result < 256 = search needs in
-    let x = getD (a .t3) (l .i - 1) 0 in
-    let has = c .before .before .has-code in
-    let entry = c .before .before .before .before .entry-of in
-    let there = laws.entry-seen (a .t2) x (entry .result) (has .result) _ _ processes (entry .ensures) (has .ensures) (c .before .if1 .taken) in (
-      l .inv .0,
+    let l = c .before .before .before .before .before .before .before .before .loop in
+    let a = c .before .before .before .before .before .before .before .before .before .args in
+    let order : length (a .t2) ≡ 32 = search (len-map, needs) in
+    let processes : length (a .t1) ≡ 32 = search (len-map, needs) in
+    let entry = c .before .before .before .before .before .before .entry-of in
+    let has = c .before .has-code2 in
+    let small : c .before .before .before .before .spot-of .result < 256 = search needs in (
       omega arith,
-      rw (l .inv .2) (laws.one-head (a .c) (a .t2) (drop (l .i - 1) (a .t3)) (drop (l .i) (a .t3)) x (c .spot-of .result) (laws.back (a .t3) (l .i) 0 (omega arith) (omega arith))
-          (laws.code-seen (a .c) (a .t2) x (entry .result) (has .result) _ (l .inv .0) processes (entry .ensures) (has .ensures) ∙ c .before .if1 .taken)
-          (c .spot-of .ensures ∙ sym (ap spot there)) small),
+      getters-noted (c .before),
+      laws.head-noted 6 (a .t1) (a .t2) (l .i) (entry .result) (has .result) _ (l .putters) (omega arith) processes (omega arith) (omega arith) (entry .ensures) (has .ensures) (l .inv .2) (c .before .before .before .before .spot-of .result) (c .if2 .taken) (c .before .before .before .before .spot-of .ensures) small,
     )
 
 loop-less-2 : tie.Need-loop-less-2 Inv-loop μ-loop
@@ -76,24 +95,22 @@ loop-less-2 c = search needs
 
 loop-again-2 : tie.Need-loop-again-2 Inv-loop μ-loop
 loop-again-2 c =
-    let l = c .before .before .before .before .before .loop in
-    let a = c .before .before .before .before .before .before .args in
-    let order : length (a .t3) ≡ 32 = search (len-map, needs) in
-    let processes : length (a .t2) ≡ 32 = search (len-map, needs) in
-    let x = getD (a .t3) (l .i - 1) 0 in
-    let has = c .before .has-code in
-    let entry = c .before .before .before .entry-of in (
-      l .inv .0,
+    let l = c .before .before .before .before .before .before .before .before .loop in
+    let a = c .before .before .before .before .before .before .before .before .before .args in
+    let order : length (a .t2) ≡ 32 = search (len-map, needs) in
+    let processes : length (a .t1) ≡ 32 = search (len-map, needs) in
+    let entry = c .before .before .before .before .before .before .entry-of in
+    let has = c .before .has-code2 in (
       omega arith,
-      l .inv .2 ∙ laws.no-head (a .c) (a .t2) (drop (l .i - 1) (a .t3)) (drop (l .i) (a .t3)) x (laws.back (a .t3) (l .i) 0 (omega arith) (omega arith))
-          (laws.code-seen (a .c) (a .t2) x (entry .result) (has .result) _ (l .inv .0) processes (entry .ensures) (has .ensures) ∙ c .if1 .left),
+      getters-noted (c .before),
+      laws.head-kept 6 (a .t1) (a .t2) (l .i) (entry .result) (has .result) _ (l .putters) (omega arith) processes (omega arith) (omega arith) (entry .ensures) (has .ensures) (l .inv .2) (c .if2 .left),
     )
 
 returns : tie.Need-returns Inv-loop μ-loop
 returns c =
     let l = c .before .loop in
     let none : l .i ≡ 0 = omega arith in
-    l .inv .2 ∙ rw none
+    (l .inv .1 ∙ rw none, l .inv .2 ∙ rw none)
 
 pub heads-of-spec : {M : Type 1} → statement M
 heads-of-spec =
@@ -107,10 +124,12 @@ heads-of-spec =
     entry-of-requires
     mul-entry
     array-copy-out-entry
-    has-code-requires
     spot-of-requires
     cast-n
-    array-write-heads
+    has-code-requires
+    array-write-getters
+    has-code-requires-2
+    array-write-putters
     loop-less
     loop-again
     loop-less-2

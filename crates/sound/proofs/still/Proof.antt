@@ -17,19 +17,16 @@ use Rattle.sound.proofs.still.Statement.{statement}
 use Rattle.sound.proofs.still.Tie as tie
 
 abbrev Inv-loop : tie.InvT-loop
-Inv-loop processes structures sizes held getters putters ok₀ i₀ ok i = (i ≤ 24) × (length getters ≡ 256) × (length putters ≡ 256) × (ok ≡ every i (restsAt processes structures sizes held getters putters))
+Inv-loop processes structures sizes held heads ok₀ i₀ ok i = (i ≤ 24) × (length (heads .getters) ≡ 256) × (length (heads .putters) ≡ 256) × (ok ≡ every i (restsAt processes structures sizes held (heads .getters) (heads .putters)))
 
 abbrev μ-loop : tie.MeasureT-loop
-μ-loop processes structures sizes held getters putters ok₀ i₀ ok i = 24 - i
+μ-loop processes structures sizes held heads ok₀ i₀ ok i = 24 - i
 
 heads-of-requires : tie.Need-heads-of-requires Inv-loop μ-loop
 heads-of-requires c κs = search needs
 
-heads-of-requires-2 : tie.Need-heads-of-requires-2 Inv-loop μ-loop
-heads-of-requires-2 c κs = search needs
-
 loop-holds : tie.Need-loop-holds Inv-loop μ-loop
-loop-holds c = (search needs, rw (c .before .heads-of .ensures) (laws.length-heads _ _ _), rw (c .heads-of2 .ensures) (laws.length-heads _ _ _), laws.every-none _)
+loop-holds c = (search needs, rw (c .heads-of .ensures .0) (laws.length-heads _ _ _), rw (c .heads-of .ensures .1) (laws.length-heads _ _ _), laws.every-none _)
 
 mul-structure : tie.Need-mul-structure Inv-loop μ-loop
 mul-structure c = search needs
@@ -70,14 +67,14 @@ amount-named-requires-2 c κs = search needs
 add-getter : tie.Need-add-getter Inv-loop μ-loop
 add-getter c = search needs
 
-array-read-getter : tie.Need-array-read-getter Inv-loop μ-loop
-array-read-getter c = search needs
+element-copy-out-getter : tie.Need-element-copy-out-getter Inv-loop μ-loop
+element-copy-out-getter c = search needs
 
 add-putter : tie.Need-add-putter Inv-loop μ-loop
 add-putter c = search needs
 
-array-read-putter : tie.Need-array-read-putter Inv-loop μ-loop
-array-read-putter c = search needs
+element-copy-out-putter : tie.Need-element-copy-out-putter Inv-loop μ-loop
+element-copy-out-putter c = search needs
 
 entry-of-requires : tie.Need-entry-of-requires Inv-loop μ-loop
 entry-of-requires c κs = search needs
@@ -114,26 +111,27 @@ loop-less c = search needs
 
 loop-again : tie.Need-loop-again Inv-loop μ-loop
 loop-again c =
-    let a = c .before .before .before .before .before .before .before .args in
+    let a = c .before .before .before .before .before .before .args in
     let l = c .before .before .before .before .loop in
+    let heads = c .before .before .before .before .before .heads-of in
     let processes : length (a .t2) ≡ 32 = search (len-map, needs) in
     let structures : length (a .t3) ≡ 24 = search (len-map, needs) in
     let sizes : length (a .t4) ≡ 8 = search (len-map, needs) in
     let held : length (a .t5) ≡ 8 = search (len-map, needs) in
     let is = ap (λ (s : Structure). s .kind) (laws.next-entry (a .t3) (l .i) nothing _ (omega arith)) in
-    let getter = ap (λ (m : List ℕ). getD m (l .i + 1) 0) (c .before .before .before .before .before .before .heads-of .ensures) ∙ laws.head-at 5 (a .t2) (a .order) (l .i + 1) (omega arith) in
-    let putter = ap (λ (m : List ℕ). getD m (l .i + 1) 0) (c .before .before .before .before .before .heads-of2 .ensures) ∙ laws.head-at 6 (a .t2) (a .order) (l .i + 1) (omega arith) in (
+    let getter = ap (λ (m : List ℕ). getD m (l .i + 1) 0) (heads .ensures .0) ∙ laws.head-at 5 (a .t2) (a .order) (l .i + 1) (omega arith) in
+    let putter = ap (λ (m : List ℕ). getD m (l .i + 1) 0) (heads .ensures .1) ∙ laws.head-at 6 (a .t2) (a .order) (l .i + 1) (omega arith) in (
       omega arith,
       l .inv .1,
       l .inv .2,
       ⊎-elim
-          (λ w. rw (w .13) (laws.turn _ (l .i) (l .ok) (w .12 .result) (l .inv .3)
+          (λ w. rw (w .15) (laws.turn _ (l .i) (l .ok) (w .14 .result) (l .inv .3)
           (laws.rests-turn (a .t2) (a .t3) (a .t4) (a .t5) _ _ (l .i + 1) is (sym (c .before .is-ring .ensures) ∙ w .0 .taken)
           (laws.amount-seen (a .t4) (w .1 .result) _ _ sizes (w .2 .ensures) (w .3 .ensures) (w .1 .ensures))
           (laws.amount-seen (a .t5) (w .1 .result) _ _ held (w .4 .ensures) (w .5 .ensures) (w .1 .ensures))
-          (λ z. w .10 .ensures ∙ ap asked (sym (laws.head-entry 5 (a .t2) (a .order) (l .i + 1) _ _ _ (omega arith) processes getter z (w .6 .ensures))))
-          (λ z. w .11 .ensures ∙ ap asked (sym (laws.head-entry 6 (a .t2) (a .order) (l .i + 1) _ _ _ (omega arith) processes putter z (w .8 .ensures))))
-          (w .12 .ensures))))
+          (λ z. w .12 .ensures ∙ ap asked (sym (laws.head-entry 5 (a .t2) (a .order) (l .i + 1) _ _ _ (omega arith) processes getter z (w .8 .ensures))))
+          (λ z. w .13 .ensures ∙ ap asked (sym (laws.head-entry 6 (a .t2) (a .order) (l .i + 1) _ _ _ (omega arith) processes putter z (w .10 .ensures))))
+          (w .14 .ensures))))
           (λ w. rw (w .1) (sym (and-true (l .ok)) ∙ laws.turn _ (l .i) (l .ok) true (l .inv .3) (laws.rests-other (a .t2) (a .t3) (a .t4) (a .t5) _ _ (l .i + 1) is (sym (c .before .is-ring .ensures) ∙ w .0 .left))))
           (c .if1 .came),
     )
@@ -142,7 +140,7 @@ returns : tie.Need-returns Inv-loop μ-loop
 returns c =
     let l = c .before .loop in
     let all : l .i ≡ 24 = omega arith in
-    rw (all, c .before .before .before .heads-of .ensures, c .before .before .heads-of2 .ensures) at (l .inv .3)
+    rw (all, c .before .before .heads-of .ensures .0, c .before .before .heads-of .ensures .1) at (l .inv .3)
 
 pub still-spec : {M : Type 1} → statement M
 still-spec =
@@ -151,7 +149,6 @@ still-spec =
     Inv-loop
     μ-loop
     heads-of-requires
-    heads-of-requires-2
     loop-holds
     mul-structure
     array-copy-out-structure
@@ -166,9 +163,9 @@ still-spec =
     array-read-amount-named-2
     amount-named-requires-2
     add-getter
-    array-read-getter
+    element-copy-out-getter
     add-putter
-    array-read-putter
+    element-copy-out-putter
     entry-of-requires
     mul-first
     array-copy-out-first
