@@ -574,7 +574,8 @@ fn urgent(running: u8, processes: [Process; 32]) -> bool
     ok
 }
 
-// Are the tables sound: settled, still and urgent?
+// Are the tables sound: settled, still and urgent? A helper takes only the tables that it reads, so that the large ones
+// are copied once at most.
 pub fn sound(t: Tables) -> bool
     ensures { λ r. ⌜ r ≡ soundB t ⌝ }
 {
