@@ -131,7 +131,8 @@ pub fn process_at(t: Tables, p: u8) -> Process
         return nobody();
     }
     let i = (p - 1) as usize;
-    t.processes[i]
+    let processes = t.processes;
+    processes[i]
 }
 
 // The structure with number n, or nothing.
@@ -145,7 +146,8 @@ pub fn structure_at(t: Tables, n: u8) -> Structure
         return nothing();
     }
     let i = (n - 1) as usize;
-    t.structures[i]
+    let structures = t.structures;
+    structures[i]
 }
 
 // The ring in bay b, or an empty bay.
@@ -159,7 +161,8 @@ pub fn ring_in(t: Tables, b: u8) -> Ring
         return bay::empty_bay();
     }
     let i = (b - 1) as usize;
-    t.rings[i]
+    let rings = t.rings;
+    rings[i]
 }
 
 // The parcel of process p, or an empty one.
@@ -173,7 +176,8 @@ pub fn parcel_for(t: Tables, p: u8) -> Parcel
         return bay::empty_parcel();
     }
     let i = (p - 1) as usize;
-    t.parcels[i]
+    let parcels = t.parcels;
+    parcels[i]
 }
 
 // The tables with process p anew; as they were where there is no such number.
@@ -188,7 +192,9 @@ pub fn with_process(t: Tables, p: u8, process: Process) -> Tables
     }
     let i = (p - 1) as usize;
     let mut next = t;
-    next.processes[i] = process;
+    let mut processes = t.processes;
+    processes[i] = process;
+    next.processes = processes;
     next
 }
 
@@ -204,7 +210,9 @@ pub fn with_structure(t: Tables, n: u8, structure: Structure) -> Tables
     }
     let i = (n - 1) as usize;
     let mut next = t;
-    next.structures[i] = structure;
+    let mut structures = t.structures;
+    structures[i] = structure;
+    next.structures = structures;
     next
 }
 
@@ -220,7 +228,9 @@ pub fn with_ring(t: Tables, b: u8, ring: Ring) -> Tables
     }
     let i = (b - 1) as usize;
     let mut next = t;
-    next.rings[i] = ring;
+    let mut rings = t.rings;
+    rings[i] = ring;
+    next.rings = rings;
     next
 }
 
@@ -236,7 +246,9 @@ pub fn with_parcel(t: Tables, p: u8, parcel: Parcel) -> Tables
     }
     let i = (p - 1) as usize;
     let mut next = t;
-    next.parcels[i] = parcel;
+    let mut parcels = t.parcels;
+    parcels[i] = parcel;
+    next.parcels = parcels;
     next
 }
 
@@ -389,10 +401,12 @@ pub fn stands_in(x: u8, place: Place, which: Line) -> bool
 pub fn head_of(t: Tables, which: Line) -> u8
     ensures { λ r. ⌜ r ≡ first (line which t) ⌝ }
 {
+    let order = t.order;
+    let processes = t.processes;
     let mut i = 0;
     while i < 32 {
-        let x = t.order[i];
-        let entry = t.processes[entry_of(x)];
+        let x = order[i];
+        let entry = processes[entry_of(x)];
         let place = entry.place;
         if stands_in(x, place, which) {
             return x;
@@ -406,12 +420,14 @@ pub fn head_of(t: Tables, which: Line) -> u8
 pub fn line_of(t: Tables, which: Line) -> [u8; 32]
     ensures { λ r. ⌜ r ≡ padded (line which t) ⌝ }
 {
+    let order = t.order;
+    let processes = t.processes;
     let mut members = [0; 32];
     let mut k = 0;
     let mut i = 0;
     while i < 32 {
-        let x = t.order[i];
-        let entry = t.processes[entry_of(x)];
+        let x = order[i];
+        let entry = processes[entry_of(x)];
         let place = entry.place;
         if stands_in(x, place, which) {
             members[k] = x;
@@ -446,11 +462,13 @@ fn waits_at(x: u8, place: Place, n: u8) -> bool
 pub fn in_lines_of(t: Tables, n: u8) -> u8
     ensures { λ r. ⌜ r ≡ inLinesOf n t ⌝ }
 {
+    let order = t.order;
+    let processes = t.processes;
     let mut k = 0;
     let mut i = 0;
     while i < 32 {
-        let x = t.order[i];
-        let entry = t.processes[entry_of(x)];
+        let x = order[i];
+        let entry = processes[entry_of(x)];
         let place = entry.place;
         if waits_at(x, place, n) {
             k += 1;
@@ -464,12 +482,14 @@ pub fn in_lines_of(t: Tables, n: u8) -> u8
 pub fn ready_head(t: Tables) -> u8
     ensures { λ r. ⌜ r ≡ first (readyLine t) ⌝ }
 {
+    let order = t.order;
+    let processes = t.processes;
     let mut head = 0;
     let mut urgency = 0;
     let mut i = 0;
     while i < 32 {
-        let x = t.order[i];
-        let entry = t.processes[entry_of(x)];
+        let x = order[i];
+        let entry = processes[entry_of(x)];
         let place = entry.place;
         if stands_in(x, place, Line::Ready) {
             let its = entry.priority as u16 + 1;

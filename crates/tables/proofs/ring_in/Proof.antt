@@ -22,7 +22,7 @@ empty-bay-requires-2 c κs = search needs
 returns-2 : tie.Need-returns-2
 unfolding ringIn
 returns-2 c =
-    let long : length (c .before .before .before .args .t1 .rings) ≡ 8 = search (len-map, needs) in
+    let long : length (c .before .before .before .args .t .rings) ≡ 8 = search (len-map, needs) in
     c .empty-bay2 .ensures ∙ sym (numbered-past _ _ emptyBay (search needs))
 
 sub-i : tie.Need-sub-i
@@ -34,14 +34,14 @@ cast-i c = search needs
 mul-result : tie.Need-mul-result
 mul-result c = search needs
 
-element-copy-out-result : tie.Need-element-copy-out-result
-element-copy-out-result c = search needs
+array-copy-out-result : tie.Need-array-copy-out-result
+array-copy-out-result c = search needs
 
 returns-3 : tie.Need-returns-3
 unfolding ringIn
 returns-3 c =
-    let long : length (c .before .before .before .args .t1 .rings) ≡ 8 = search (len-map, needs) in
-    sym (numbered-at _ _ emptyBay _ (c .before .before .if1 .left) (search needs))
+    let long : length (c .before .before .before .before .args .t .rings) ≡ 8 = search (len-map, needs) in
+    sym (numbered-at _ _ emptyBay _ (c .before .before .before .if1 .left) (search needs))
 
 pub ring-in-spec : {M : Type 1} → statement M
-ring-in-spec = tie.close (tie.spec empty-bay-requires returns empty-bay-requires-2 returns-2 sub-i cast-i mul-result element-copy-out-result returns-3)
+ring-in-spec = tie.close (tie.spec empty-bay-requires returns empty-bay-requires-2 returns-2 sub-i cast-i mul-result array-copy-out-result returns-3)

@@ -21,7 +21,7 @@ nothing-requires-2 c κs = search needs
 returns-2 : tie.Need-returns-2
 unfolding structureOf
 returns-2 c =
-    let long : length (c .before .before .before .args .t1 .structures) ≡ 24 = search (len-map, needs) in
+    let long : length (c .before .before .before .args .t .structures) ≡ 24 = search (len-map, needs) in
     c .nothing2 .ensures ∙ sym (numbered-past _ _ nothing (search needs))
 
 sub-i : tie.Need-sub-i
@@ -33,14 +33,14 @@ cast-i c = search needs
 mul-result : tie.Need-mul-result
 mul-result c = search needs
 
-element-copy-out-result : tie.Need-element-copy-out-result
-element-copy-out-result c = search needs
+array-copy-out-result : tie.Need-array-copy-out-result
+array-copy-out-result c = search needs
 
 returns-3 : tie.Need-returns-3
 unfolding structureOf
 returns-3 c =
-    let long : length (c .before .before .before .args .t1 .structures) ≡ 24 = search (len-map, needs) in
-    sym (numbered-at _ _ nothing _ (c .before .before .if1 .left) (search needs))
+    let long : length (c .before .before .before .before .args .t .structures) ≡ 24 = search (len-map, needs) in
+    sym (numbered-at _ _ nothing _ (c .before .before .before .if1 .left) (search needs))
 
 pub structure-at-spec : {M : Type 1} → statement M
-structure-at-spec = tie.close (tie.spec nothing-requires returns nothing-requires-2 returns-2 sub-i cast-i mul-result element-copy-out-result returns-3)
+structure-at-spec = tie.close (tie.spec nothing-requires returns nothing-requires-2 returns-2 sub-i cast-i mul-result array-copy-out-result returns-3)

@@ -24,15 +24,15 @@ sub-i c = search needs
 cast-i : tie.Need-cast-i
 cast-i c = search needs
 
-mul-parcel : tie.Need-mul-parcel
-mul-parcel c = search needs
+mul-parcels : tie.Need-mul-parcels
+mul-parcels c = search needs
 
-element-set-from-parcel : tie.Need-element-set-from-parcel
-element-set-from-parcel c = search needs
+array-set-from-parcels : tie.Need-array-set-from-parcels
+array-set-from-parcels c = search needs
 
 returns-3 : tie.Need-returns-3
 unfolding withParcel
-returns-3 c = rw (replaced-at (c .before .before .args .t .parcels) (c .before .before .args .p) _ (c .before .if1 .left))
+returns-3 c = rw (replaced-at (c .before .before .before .args .t .parcels) (c .before .before .before .args .p) _ (c .before .before .if1 .left))
 
 pub with-parcel-spec : {M : Type 1} → statement M
-with-parcel-spec = tie.close (tie.spec returns returns-2 sub-i cast-i mul-parcel element-set-from-parcel returns-3)
+with-parcel-spec = tie.close (tie.spec returns returns-2 sub-i cast-i mul-parcels array-set-from-parcels returns-3)

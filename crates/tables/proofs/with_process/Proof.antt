@@ -24,15 +24,15 @@ sub-i c = search needs
 cast-i : tie.Need-cast-i
 cast-i c = search needs
 
-mul-process : tie.Need-mul-process
-mul-process c = search needs
+mul-processes : tie.Need-mul-processes
+mul-processes c = search needs
 
-element-set-from-process : tie.Need-element-set-from-process
-element-set-from-process c = search needs
+array-set-from-processes : tie.Need-array-set-from-processes
+array-set-from-processes c = search needs
 
 returns-3 : tie.Need-returns-3
 unfolding withProcess
-returns-3 c = rw (replaced-at (c .before .before .args .t .processes) (c .before .before .args .p) _ (c .before .if1 .left))
+returns-3 c = rw (replaced-at (c .before .before .before .args .t .processes) (c .before .before .before .args .p) _ (c .before .before .if1 .left))
 
 pub with-process-spec : {M : Type 1} → statement M
-with-process-spec = tie.close (tie.spec returns returns-2 sub-i cast-i mul-process element-set-from-process returns-3)
+with-process-spec = tie.close (tie.spec returns returns-2 sub-i cast-i mul-processes array-set-from-processes returns-3)

@@ -24,15 +24,15 @@ sub-i c = search needs
 cast-i : tie.Need-cast-i
 cast-i c = search needs
 
-mul-ring : tie.Need-mul-ring
-mul-ring c = search needs
+mul-rings : tie.Need-mul-rings
+mul-rings c = search needs
 
-element-set-from-ring : tie.Need-element-set-from-ring
-element-set-from-ring c = search needs
+array-set-from-rings : tie.Need-array-set-from-rings
+array-set-from-rings c = search needs
 
 returns-3 : tie.Need-returns-3
 unfolding withRing
-returns-3 c = rw (replaced-at (c .before .before .args .t .rings) (c .before .before .args .b) _ (c .before .if1 .left))
+returns-3 c = rw (replaced-at (c .before .before .before .args .t .rings) (c .before .before .before .args .b) _ (c .before .before .if1 .left))
 
 pub with-ring-spec : {M : Type 1} → statement M
-with-ring-spec = tie.close (tie.spec returns returns-2 sub-i cast-i mul-ring element-set-from-ring returns-3)
+with-ring-spec = tie.close (tie.spec returns returns-2 sub-i cast-i mul-rings array-set-from-rings returns-3)

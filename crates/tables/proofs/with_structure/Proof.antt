@@ -24,15 +24,15 @@ sub-i c = search needs
 cast-i : tie.Need-cast-i
 cast-i c = search needs
 
-mul-structure : tie.Need-mul-structure
-mul-structure c = search needs
+mul-structures : tie.Need-mul-structures
+mul-structures c = search needs
 
-element-set-from-structure : tie.Need-element-set-from-structure
-element-set-from-structure c = search needs
+array-set-from-structures : tie.Need-array-set-from-structures
+array-set-from-structures c = search needs
 
 returns-3 : tie.Need-returns-3
 unfolding withStructure
-returns-3 c = rw (replaced-at (c .before .before .args .t .structures) (c .before .before .args .n) _ (c .before .if1 .left))
+returns-3 c = rw (replaced-at (c .before .before .before .args .t .structures) (c .before .before .before .args .n) _ (c .before .before .if1 .left))
 
 pub with-structure-spec : {M : Type 1} → statement M
-with-structure-spec = tie.close (tie.spec returns returns-2 sub-i cast-i mul-structure element-set-from-structure returns-3)
+with-structure-spec = tie.close (tie.spec returns returns-2 sub-i cast-i mul-structures array-set-from-structures returns-3)
