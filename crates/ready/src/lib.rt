@@ -89,12 +89,26 @@ pub fn let_through(t: Tables, which: Line) -> Tables
 pub fn released_all(t: Tables, members: [u8; 32]) -> Tables
     ensures { λ r. ⌜ r ≡ releasedAll members t ⌝ }
 {
-    let mut next = t;
+    let mut order = t.order;
+    let mut processes = t.processes;
     let mut i = 0;
     while i < 32 {
-        next = released(next, members[i]);
+        let p = members[i];
+        if p != 0 {
+            let moved = arrivals::moved_last(order, p);
+            order = moved;
+            if p <= 32 {
+                let k = (p - 1) as usize;
+                let process = processes[k];
+                let free = placed(process, released_to(process.suspended));
+                processes[k] = free;
+            }
+        }
         i += 1;
     }
+    let mut next = t;
+    next.order = order;
+    next.processes = processes;
     next
 }
 

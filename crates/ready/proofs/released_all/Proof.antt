@@ -1,29 +1,55 @@
--- `ready::released_all` meets its contract: each return is the definition at the tests on the way.
+-- `ready::released_all` meets its contract: to release those who are left, on the order and the processes so far, gives what the whole gives.
 use Prim.Native.Nat.{_≤_, _-_}
 use mathlib.Core.Path.{_≡_, refl, sym, _∙_}
-use lib.ListN.{drop, length}
+use mathlib.Core.Logic.{⊎-elim}
+use lib.ListN.{drop, length, length-set}
 use borrow.Author.Needs.{needs}
 use native.Mathlib.Omega.{arith}
 use Rattle.basics.specs.Lists.{len-map}
-use Rattle.ready.proofs.Laws.{one-more, no-more}
+use Rattle.ready.proofs.Laws.{one-more, no-more, seated, nobody-released, one-released, past-released}
 use Rattle.ready.specs.Ready.{releasedAll}
 use Rattle.ready.proofs.released_all.Statement.{statement}
 use Rattle.ready.proofs.released_all.Tie as tie
 
 abbrev Inv-loop : tie.InvT-loop
-Inv-loop members next₀ i₀ next i = (i ≤ 32) × (releasedAll (drop i members) next ≡ releasedAll members next₀)
+Inv-loop t members order₀ processes₀ i₀ order processes i =
+    (i ≤ 32) × (length processes ≡ 32) × (releasedAll (drop i members) (seated t order processes) ≡ releasedAll members t)
 
 abbrev μ-loop : tie.MeasureT-loop
-μ-loop members next₀ i₀ next i = 32 - i
+μ-loop t members order₀ processes₀ i₀ order processes i = 32 - i
 
 loop-holds : tie.Need-loop-holds Inv-loop μ-loop
-loop-holds c = (search needs, refl)
+loop-holds c = (search needs, search (len-map, needs), refl)
 
-array-read-released : tie.Need-array-read-released Inv-loop μ-loop
-array-read-released c = search needs
+array-read-p : tie.Need-array-read-p Inv-loop μ-loop
+array-read-p c = search needs
 
-released-requires : tie.Need-released-requires Inv-loop μ-loop
-released-requires c κs = search needs
+moved-last-requires : tie.Need-moved-last-requires Inv-loop μ-loop
+moved-last-requires c κs = search needs
+
+sub-k : tie.Need-sub-k Inv-loop μ-loop
+sub-k c = search needs
+
+cast-k : tie.Need-cast-k Inv-loop μ-loop
+cast-k c = search needs
+
+mul-process : tie.Need-mul-process Inv-loop μ-loop
+mul-process c = search needs
+
+array-copy-out-process : tie.Need-array-copy-out-process Inv-loop μ-loop
+array-copy-out-process c = search needs
+
+released-to-requires : tie.Need-released-to-requires Inv-loop μ-loop
+released-to-requires c κs = search needs
+
+placed-requires : tie.Need-placed-requires Inv-loop μ-loop
+placed-requires c κs = search needs
+
+mul-processes : tie.Need-mul-processes Inv-loop μ-loop
+mul-processes c = search needs
+
+array-set-from-processes : tie.Need-array-set-from-processes Inv-loop μ-loop
+array-set-from-processes c = search needs
 
 add-i : tie.Need-add-i Inv-loop μ-loop
 add-i c = search needs
@@ -33,13 +59,22 @@ loop-less c = search needs
 
 loop-again : tie.Need-loop-again Inv-loop μ-loop
 loop-again c =
-    let long : length (c .before .before .before .args .t2) ≡ 32 = search (len-map, needs) in
-    (search needs, one-more (c .before .before .before .args .t2) (c .before .before .loop .i) _ _ (omega arith) (c .released .ensures) ∙ c .before .before .loop .inv .1)
+    let a = c .before .before .before .before .before .args in
+    let at = c .before .before .loop in
+    let long : length (a .t2) ≡ 32 = search (len-map, needs) in
+    let next = one-more (a .t2) (at .i) (seated (a .t) (at .order) (at .processes)) in
+    ⊎-elim
+    (λ w. (search needs, rw (w .7) (simp length-set (at .inv .1)), rw (w .6, w .7) (next _ (omega arith) (one-released (a .t) _ _ _ _ (w .0 .taken) (w .1 .ensures) _ _ (omega (arith, w .2 .taken, at .inv .1)) (rw (w .4 .ensures) at (w .5 .ensures))) ∙ at .inv .2)))
+    (⊎-elim
+    (λ w. (search needs, rw (w .4) (at .inv .1), rw (w .3, w .4) (next _ (omega arith) (past-released (a .t) _ _ _ _ (w .0 .taken) (w .1 .ensures) (omega (arith, w .2 .left, at .inv .1))) ∙ at .inv .2)))
+    (λ w. (search needs, rw (w .2) (at .inv .1), rw (w .1, w .2) (next _ (omega arith) (nobody-released _ _ (w .0 .left)) ∙ at .inv .2))))
+    (c .if1 .came)
 
 returns : tie.Need-returns Inv-loop μ-loop
 returns c =
-    let long : length (c .before .before .args .t2) ≡ 32 = search (len-map, needs) in
-    sym (no-more (c .before .before .args .t2) (c .before .loop .i) _ (omega arith)) ∙ c .before .loop .inv .1
+    let members = c .before .before .before .before .args .t2 in
+    let long : length members ≡ 32 = search (len-map, needs) in
+    sym (no-more members (c .before .loop .i) _ (omega arith)) ∙ c .before .loop .inv .2
 
 pub released-all-spec : {M : Type 1} → statement M
 released-all-spec =
@@ -48,8 +83,16 @@ released-all-spec =
     Inv-loop
     μ-loop
     loop-holds
-    array-read-released
-    released-requires
+    array-read-p
+    moved-last-requires
+    sub-k
+    cast-k
+    mul-process
+    array-copy-out-process
+    released-to-requires
+    placed-requires
+    mul-processes
+    array-set-from-processes
     add-i
     loop-less
     loop-again
