@@ -13,11 +13,11 @@ use Rattle.arrivals.specs.Order.{keep}
 use Rattle.tables.specs.declared.Tables.{Tables}
 use Rattle.tables.specs.declared.Process.{Process}
 use Rattle.tables.specs.declared.Place.the-variants.{Nowhere}
-use Rattle.tables.specs.Access.{withProcesses}
 use Rattle.tables.specs.Lines.{isNumber, urgency}
 use Rattle.tables.proofs.Laws.{seen}
-use Rattle.ready.specs.Ready.{joins, released, releasedAll}
-use Rattle.processes.specs.Processes.{isFree, lowestFree, priorityOf, later, isDue, dueOf, orNobody}
+use Rattle.ready.specs.Ready.{released, releasedAll}
+use Rattle.ready.proofs.Laws.{nobody-released}
+use Rattle.processes.specs.Processes.{isFree, lowestFree, priorityOf, isDue, dueOf, orNobody}
 
 -- A turn of the search for a free number
 pub free-turn : (l : List Process) (i : ℕ) (b : Bool) (d : Process) → i < length l → b ≡ isFree (getD l i d) → lowestFree (i + 1) (drop i l) ≡ cond b (i + 1) (lowestFree (i + 1 + 1) (drop (i + 1) l))
@@ -61,11 +61,6 @@ module _ {A : Type 0} (f : A → A) where
   all-changed zero (x ∷ l) h = absurd (omega arith)
   all-changed (suc i) (x ∷ l) h = ap (λ (r : List A). f x ∷ r) (all-changed i l (omega arith))
 
--- A turn of the loop that changes every process
-pub later-turn : (k : ℕ) (t u : Tables) (i : ℕ) (y d : Process) → i < length (t .processes) → u ≡ withProcesses t (changed (later k) i (t .processes)) → y ≡ later k (getD (u .processes) i d) → withProcesses u (set (u .processes) i y) ≡ withProcesses t (changed (later k) (i + 1) (t .processes))
-later-turn k t u i y d h e g =
-    rw (turned (later k) (t .processes) (u .processes) i y d h (ap (λ (v : Tables). v .processes) e) g) (rw e)
-
 -- ---- those who are due
 
 -- Nobody is due
@@ -81,11 +76,6 @@ due-entry ps x k r d long e h =
       | fails g ↦ h ∙ rw (seen isDue ps x d nobody-due long, g)
     ]
 
--- Nobody is released where nobody is named
-nobody-released : (t : Tables) → released 0 t ≡ t
-unfolding released joins
-nobody-released t = refl
-
 -- With nobody in place of the others, those who pass the test are released
 pub those-released : (f : ℕ → Bool) (l : List ℕ) (t : Tables) → releasedAll (map (orNobody f) l) t ≡ releasedAll (keep f l) t
 unfolding releasedAll
@@ -93,5 +83,5 @@ those-released f [] t = refl
 those-released f (x ∷ l) t =
     elim (test (f x)) [
       | holds e ↦ rw e (those-released f l (released x t))
-      | fails e ↦ rw (e, nobody-released t) (those-released f l t)
+      | fails e ↦ rw (e, ← nobody-released 0 t refl) (those-released f l t)
     ]

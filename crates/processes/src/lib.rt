@@ -59,9 +59,10 @@ fn is_free(process: Process) -> bool
 pub fn free_process(t: Tables) -> u8
     ensures { λ r. ⌜ r ≡ freeProcess t ⌝ }
 {
+    let processes = t.processes;
     let mut i = 0;
     while i < 32 {
-        let process = t.processes[i];
+        let process = processes[i];
         if is_free(process) {
             return (i + 1) as u8;
         }
@@ -267,10 +268,12 @@ pub fn prioritised(t: Tables, p: u8, priority: u8) -> Step
 fn ready_has(t: Tables, priority: u8) -> bool
     ensures { λ r. ⌜ r ≡ readyHas priority t ⌝ }
 {
+    let order = t.order;
+    let processes = t.processes;
     let mut i = 0;
     while i < 32 {
-        let x = t.order[i];
-        let entry = t.processes[tables::entry_of(x)];
+        let x = order[i];
+        let entry = processes[tables::entry_of(x)];
         let place = entry.place;
         if tables::stands_in(x, place, Line::Ready) {
             if entry.priority == priority {
@@ -377,14 +380,16 @@ fn later(process: Process, k: u32) -> Process
 fn all_later(t: Tables, k: u32) -> Tables
     ensures { λ r. ⌜ r ≡ allLater k t ⌝ }
 {
-    let mut next = t;
+    let mut processes = t.processes;
     let mut i = 0;
     while i < 32 {
-        let process = next.processes[i];
+        let process = processes[i];
         let after = later(process, k);
-        next.processes[i] = after;
+        processes[i] = after;
         i += 1;
     }
+    let mut next = t;
+    next.processes = processes;
     next
 }
 
@@ -425,10 +430,11 @@ fn due_in(t: Tables) -> [u8; 32]
     ensures { λ r. ⌜ r ≡ map (orNobody (dueOf (t .processes))) (t .order) ⌝ }
 {
     let mut members = t.order;
+    let processes = t.processes;
     let mut i = 0;
     while i < 32 {
         let x = members[i];
-        let entry = t.processes[tables::entry_of(x)];
+        let entry = processes[tables::entry_of(x)];
         let place = entry.place;
         members[i] = if_due(x, place);
         i += 1;

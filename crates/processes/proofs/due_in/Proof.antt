@@ -11,10 +11,10 @@ use Rattle.processes.proofs.due_in.Statement.{statement}
 use Rattle.processes.proofs.due_in.Tie as tie
 
 abbrev Inv-loop : tie.InvT-loop
-Inv-loop t members₀ i₀ members i = (i ≤ 32) × (length members ≡ 32) × (members ≡ changed (orNobody (dueOf (t .processes))) i (t .order))
+Inv-loop members₀ processes i₀ members i = (i ≤ 32) × (length members ≡ 32) × (members ≡ changed (orNobody (dueOf processes)) i members₀)
 
 abbrev μ-loop : tie.MeasureT-loop
-μ-loop t members₀ i₀ members i = 32 - i
+μ-loop members₀ processes i₀ members i = 32 - i
 
 loop-holds : tie.Need-loop-holds Inv-loop μ-loop
 loop-holds c = (search needs, search (len-map, needs), refl)
@@ -28,8 +28,8 @@ entry-of-requires c κs = search needs
 mul-entry : tie.Need-mul-entry Inv-loop μ-loop
 mul-entry c = search needs
 
-element-copy-out-entry : tie.Need-element-copy-out-entry Inv-loop μ-loop
-element-copy-out-entry c = search needs
+array-copy-out-entry : tie.Need-array-copy-out-entry Inv-loop μ-loop
+array-copy-out-entry c = search needs
 
 if-due-requires : tie.Need-if-due-requires Inv-loop μ-loop
 if-due-requires c κs = search needs
@@ -45,15 +45,15 @@ loop-less c = search needs
 
 loop-again : tie.Need-loop-again Inv-loop μ-loop
 loop-again c =
-    let a = c .before .before .before .before .before .before .args in
+    let a = c .before .before .before .before .before .before .before .args in
     let inv = c .before .before .before .before .loop .inv in
-    let processes : length (a .t1 .processes) ≡ 32 = search (len-map, needs) in
-    let order : length (a .t1 .order) ≡ 32 = search (len-map, needs) in
-    (search needs, search (length-set, needs), turned _ _ _ _ _ 0 (omega arith) (inv .2) (due-entry (a .t1 .processes) _ _ _ _ processes (c .before .before .entry-of .ensures) (c .if-due .ensures)))
+    let processes : length (a .t .processes) ≡ 32 = search (len-map, needs) in
+    let order : length (a .t .order) ≡ 32 = search (len-map, needs) in
+    (search needs, search (length-set, needs), turned _ _ _ _ _ 0 (omega arith) (inv .2) (due-entry (a .t .processes) _ _ _ _ processes (c .before .before .entry-of .ensures) (c .if-due .ensures)))
 
 returns : tie.Need-returns Inv-loop μ-loop
 returns c =
-    let order : length (c .before .before .before .args .t1 .order) ≡ 32 = search (len-map, needs) in
+    let order : length (c .before .before .before .before .args .t .order) ≡ 32 = search (len-map, needs) in
     c .before .loop .inv .2 ∙ all-changed _ (c .before .loop .i) _ (omega arith)
 
 pub due-in-spec : {M : Type 1} → statement M
@@ -66,7 +66,7 @@ due-in-spec =
     array-read-x
     entry-of-requires
     mul-entry
-    element-copy-out-entry
+    array-copy-out-entry
     if-due-requires
     array-write-members
     add-i

@@ -12,19 +12,19 @@ use Rattle.processes.proofs.free_process.Statement.{statement}
 use Rattle.processes.proofs.free_process.Tie as tie
 
 abbrev Inv-loop : tie.InvT-loop
-Inv-loop t i₀ i = (i ≤ 32) × (lowestFree (i + 1) (drop i (t .processes)) ≡ freeProcess t)
+Inv-loop processes i₀ i = (i ≤ 32) × (lowestFree (i + 1) (drop i processes) ≡ lowestFree 1 processes)
 
 abbrev μ-loop : tie.MeasureT-loop
-μ-loop t i₀ i = 32 - i
+μ-loop processes i₀ i = 32 - i
 
 -- What is left to look at, by the answer of `is_free`
 found : (c : tie.After-is-free Inv-loop μ-loop) →
-    let l = c .before .before .before .before .args .t1 .processes in
+    let l = c .before .before .before .before .before .args .t .processes in
     let i = c .before .before .before .loop .i in
     lowestFree (i + 1) (drop i l) ≡ cond (c .is-free .result) (i + 1) (lowestFree (i + 1 + 1) (drop (i + 1) l))
 found c =
-    let long : length (c .before .before .before .before .args .t1 .processes) ≡ 32 = search (len-map, needs) in
-    free-turn (c .before .before .before .before .args .t1 .processes) (c .before .before .before .loop .i) _ _ (omega arith) (c .is-free .ensures)
+    let long : length (c .before .before .before .before .before .args .t .processes) ≡ 32 = search (len-map, needs) in
+    free-turn (c .before .before .before .before .before .args .t .processes) (c .before .before .before .loop .i) _ _ (omega arith) (c .is-free .ensures)
 
 loop-holds : tie.Need-loop-holds Inv-loop μ-loop
 unfolding freeProcess
@@ -33,8 +33,8 @@ loop-holds c = (search needs, refl)
 mul-process : tie.Need-mul-process Inv-loop μ-loop
 mul-process c = search needs
 
-element-copy-out-process : tie.Need-element-copy-out-process Inv-loop μ-loop
-element-copy-out-process c = search needs
+array-copy-out-process : tie.Need-array-copy-out-process Inv-loop μ-loop
+array-copy-out-process c = search needs
 
 is-free-requires : tie.Need-is-free-requires Inv-loop μ-loop
 is-free-requires c κs = search needs
@@ -46,6 +46,7 @@ cast-result : tie.Need-cast-result Inv-loop μ-loop
 cast-result c = search needs
 
 returns : tie.Need-returns Inv-loop μ-loop
+unfolding freeProcess
 returns c =
     rw (found (c .before), c .if1 .taken) at (c .before .before .before .before .loop .inv .1)
 
@@ -60,9 +61,10 @@ loop-again c =
     (search needs, rw (found (c .before), c .if1 .left) at (c .before .before .before .before .loop .inv .1))
 
 returns-2 : tie.Need-returns-2 Inv-loop μ-loop
+unfolding freeProcess
 returns-2 c =
-    let long : length (c .before .before .args .t1 .processes) ≡ 32 = search (len-map, needs) in
-    rw (drop-of-length-le (c .before .before .args .t1 .processes) {i = c .before .loop .i} (omega arith)) at (c .before .loop .inv .1)
+    let long : length (c .before .before .before .args .t .processes) ≡ 32 = search (len-map, needs) in
+    rw (drop-of-length-le (c .before .before .before .args .t .processes) {i = c .before .loop .i} (omega arith)) at (c .before .loop .inv .1)
 
 pub free-process-spec : {M : Type 1} → statement M
 free-process-spec =
@@ -72,7 +74,7 @@ free-process-spec =
     μ-loop
     loop-holds
     mul-process
-    element-copy-out-process
+    array-copy-out-process
     is-free-requires
     add-result
     cast-result

@@ -20,36 +20,36 @@ use Rattle.processes.proofs.ready_has.Statement.{statement}
 use Rattle.processes.proofs.ready_has.Tie as tie
 
 abbrev Inv-loop : tie.InvT-loop
-Inv-loop priority t i₀ i = (i ≤ 32) × (has priority (map (priorityOf (t .processes)) (keep (standing lines.Ready (t .processes)) (drop i (t .order)))) ≡ readyHas priority t)
+Inv-loop priority order processes i₀ i = (i ≤ 32) × (has priority (map (priorityOf processes) (keep (standing lines.Ready processes) (drop i order))) ≡ has priority (map (priorityOf processes) (keep (standing lines.Ready processes) order)))
 
 abbrev μ-loop : tie.MeasureT-loop
-μ-loop priority t i₀ i = 32 - i
+μ-loop priority order processes i₀ i = 32 - i
 
 -- What is left of the ready line, by the answer of `stands_in`
 left : (c : tie.After-stands-in Inv-loop μ-loop) →
-    let a = c .before .before .before .before .before .before .args in
-    Left (stands lines.Ready) (a .t1 .processes) (a .t1 .order) (c .before .before .before .before .before .loop .i) (c .stands-in .result)
+    let a = c .before .before .before .before .before .before .before .args in
+    Left (stands lines.Ready) (a .t .processes) (a .t .order) (c .before .before .before .before .loop .i) (c .stands-in .result)
 left c =
-    let a = c .before .before .before .before .before .before .args in
-    let processes : length (a .t1 .processes) ≡ 32 = search (len-map, needs) in
-    let order : length (a .t1 .order) ≡ 32 = search (len-map, needs) in
-    turn (stands lines.Ready) (a .t1 .processes) (a .t1 .order) _ _ _ _ (nowhere lines.Ready) processes (omega arith) (c .before .before .entry-of .ensures) (c .stands-in .ensures)
+    let a = c .before .before .before .before .before .before .before .args in
+    let processes : length (a .t .processes) ≡ 32 = search (len-map, needs) in
+    let order : length (a .t .order) ≡ 32 = search (len-map, needs) in
+    turn (stands lines.Ready) (a .t .processes) (a .t .order) _ _ _ _ (nowhere lines.Ready) processes (omega arith) (c .before .before .entry-of .ensures) (c .stands-in .ensures)
 
 -- The priority of one that stands there is that of its entry
 its : (c : tie.After-stands-in Inv-loop μ-loop) → c .stands-in .result ≡ true →
-    let a = c .before .before .before .before .before .before .args in
-    priorityOf (a .t1 .processes) (getD (a .t1 .order) (c .before .before .before .before .before .loop .i) 0) ≡ getD (a .t1 .processes) (c .before .before .entry-of .result) nobody .priority
+    let a = c .before .before .before .before .before .before .before .args in
+    priorityOf (a .t .processes) (getD (a .t .order) (c .before .before .before .before .loop .i) 0) ≡ getD (a .t .processes) (c .before .before .entry-of .result) nobody .priority
 its c e =
-    let a = c .before .before .before .before .before .before .args in
-    let processes : length (a .t1 .processes) ≡ 32 = search (len-map, needs) in
-    priority-entry (a .t1 .processes) _ _ (urgency-entry (a .t1 .processes) _ _ _ _ processes (c .before .before .entry-of .ensures) (sym e ∙ c .stands-in .ensures))
+    let a = c .before .before .before .before .before .before .before .args in
+    let processes : length (a .t .processes) ≡ 32 = search (len-map, needs) in
+    priority-entry (a .t .processes) _ _ (urgency-entry (a .t .processes) _ _ _ _ processes (c .before .before .entry-of .ensures) (sym e ∙ c .stands-in .ensures))
 
 loop-holds : tie.Need-loop-holds Inv-loop μ-loop
 unfolding readyHas line
 loop-holds c = (search needs, refl)
 
-element-copy-out-x : tie.Need-element-copy-out-x Inv-loop μ-loop
-element-copy-out-x c = search needs
+array-read-x : tie.Need-array-read-x Inv-loop μ-loop
+array-read-x c = search needs
 
 entry-of-requires : tie.Need-entry-of-requires Inv-loop μ-loop
 entry-of-requires c κs = search needs
@@ -57,15 +57,16 @@ entry-of-requires c κs = search needs
 mul-entry : tie.Need-mul-entry Inv-loop μ-loop
 mul-entry c = search needs
 
-element-copy-out-entry : tie.Need-element-copy-out-entry Inv-loop μ-loop
-element-copy-out-entry c = search needs
+array-copy-out-entry : tie.Need-array-copy-out-entry Inv-loop μ-loop
+array-copy-out-entry c = search needs
 
 stands-in-requires : tie.Need-stands-in-requires Inv-loop μ-loop
 stands-in-requires c κs = search needs
 
 returns : tie.Need-returns Inv-loop μ-loop
+unfolding readyHas line
 returns c =
-    rw (left (c .before .before .before), c .before .before .if1 .taken, eq-eqb _ _ (its (c .before .before .before) (c .before .before .if1 .taken) ∙ c .if2 .taken)) at (c .before .before .before .before .before .before .before .before .loop .inv .1)
+    rw (left (c .before .before .before), c .before .before .if1 .taken, eq-eqb _ _ (its (c .before .before .before) (c .before .before .if1 .taken) ∙ c .if2 .taken)) at (c .before .before .before .before .before .before .before .loop .inv .1)
 
 add-i : tie.Need-add-i Inv-loop μ-loop
 add-i c = search needs
@@ -75,16 +76,17 @@ loop-less c = search needs
 
 loop-again : tie.Need-loop-again Inv-loop μ-loop
 loop-again c =
-    let known = c .before .before .before .before .before .before .loop .inv .1 in
+    let known = c .before .before .before .before .before .loop .inv .1 in
     ⊎-elim
     (λ w. (search needs, rw (left (c .before), w .0 .taken, ne-eqb _ _ (λ e. w .2 .left (sym (its (c .before) (w .0 .taken)) ∙ e))) at known))
     (λ w. (search needs, rw (left (c .before), w .left) at known))
     (c .if1 .came)
 
 returns-2 : tie.Need-returns-2 Inv-loop μ-loop
+unfolding readyHas line
 returns-2 c =
-    let order : length (c .before .before .args .t1 .order) ≡ 32 = search (len-map, needs) in
-    rw (keep-end _ (c .before .before .args .t1 .order) (c .before .loop .i) (omega arith)) at (c .before .loop .inv .1)
+    let order : length (c .before .before .before .before .args .t .order) ≡ 32 = search (len-map, needs) in
+    rw (keep-end _ (c .before .before .before .before .args .t .order) (c .before .loop .i) (omega arith)) at (c .before .loop .inv .1)
 
 pub ready-has-spec : {M : Type 1} → statement M
 ready-has-spec =
@@ -93,10 +95,10 @@ ready-has-spec =
     Inv-loop
     μ-loop
     loop-holds
-    element-copy-out-x
+    array-read-x
     entry-of-requires
     mul-entry
-    element-copy-out-entry
+    array-copy-out-entry
     stands-in-requires
     returns
     add-i
