@@ -70,6 +70,13 @@ fn released_to(suspended: bool) -> Place
     }
 }
 
+// The process, released.
+pub fn released_process(process: Process) -> Process
+    ensures { λ r. ⌜ r ≡ placed process (releasedTo (process .suspended)) ⌝ }
+{
+    placed(process, released_to(process.suspended))
+}
+
 // Process p is released.
 pub fn released(t: Tables, p: u8) -> Tables
     ensures { λ r. ⌜ r ≡ released p t ⌝ }
@@ -100,8 +107,8 @@ pub fn released_all(t: Tables, members: [u8; 32]) -> Tables
             if p <= 32 {
                 let k = (p - 1) as usize;
                 let process = processes[k];
-                let free = placed(process, released_to(process.suspended));
-                processes[k] = free;
+                let after = released_process(process);
+                processes[k] = after;
             }
         }
         i += 1;

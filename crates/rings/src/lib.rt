@@ -5,6 +5,7 @@ use answers::Step;
 use bay::Holding;
 use bay::Moved;
 use bay::Parcel;
+use bay::Ring;
 use tables::Kind;
 use tables::Line;
 use tables::Place;
@@ -18,6 +19,7 @@ ghost use lib.ListN.{length, take, drop};
 ghost use Rattle.arrivals.specs.Order.{first};
 ghost use Rattle.bay.specs.Bay.{parcelOf};
 ghost use Rattle.tables.specs.Access.{ringIn};
+ghost use Rattle.tables.specs.Lines.{isNumber};
 ghost use Rattle.answers.specs.Answers.{plain, step};
 ghost use Rattle.rings.specs.Serving.{
   asked,
@@ -28,10 +30,8 @@ ghost use Rattle.rings.specs.Serving.{
   toCome,
   turns,
   entered,
-  withMoved,
-  servedGetter,
-  servedPutter,
-  service,
+  atRing,
+  exchanged,
   services,
   served,
 };
@@ -95,9 +95,10 @@ fn lengths_of(t: Tables) -> [u8; 32]
     ensures { λ r. ⌜ r ≡ lengthsOf t ⌝ }
 {
     let mut lengths = [0; 32];
+    let processes = t.processes;
     let mut i = 0;
     while i < 32 {
-        let process = t.processes[i];
+        let process = processes[i];
         let place = process.place;
         lengths[i] = asked_in(place);
         i += 1;
@@ -248,66 +249,87 @@ fn entered(t: Tables, b: u8, parcel: Parcel, l: u8) -> Tables
     tables::with_ring(t, b, bay::put(ring, parcel, 0, l))
 }
 
-// The tables with what a get leaves: the ring in bay b, and process p's parcel.
-fn with_moved(t: Tables, b: u8, p: u8, moved: Moved) -> Tables
-    ensures { λ r. ⌜ r ≡ withMoved t b p moved ⌝ }
+// Does p, whose entry has this place, stand in a line of a ring?
+fn at_ring(p: u8, place: Place) -> bool
+    ensures { λ r. ⌜ r ≡ cond (isNumber p) (atRing place) false ⌝ }
 {
-    let ring = moved.ring;
-    let parcel = moved.parcel;
-    tables::with_parcel(tables::with_ring(t, b, ring), p, parcel)
-}
-
-// Getter p is served: its bytes lie in its parcel, and it is released.
-fn served_getter(t: Tables, b: u8, p: u8, l: u8) -> Tables
-    ensures { λ r. ⌜ r ≡ servedGetter b p l t ⌝ }
-{
-    let ring = tables::ring_in(t, b);
-    let parcel = tables::parcel_for(t, p);
-    let moved = bay::get(ring, parcel, 0, l);
-    ready::released(with_moved(t, b, p, moved), p)
-}
-
-// Putter p is served: its bytes enter the ring, its parcel is emptied, and it is released.
-fn served_putter(t: Tables, b: u8, p: u8, l: u8) -> Tables
-    ensures { λ r. ⌜ r ≡ servedPutter b p l t ⌝ }
-{
-    let parcel = tables::parcel_for(t, p);
-    let next = entered(t, b, parcel, l);
-    let empty = bay::empty_parcel();
-    ready::released(tables::with_parcel(next, p, empty), p)
-}
-
-// Process p is served at the ring in bay b.
-fn service(t: Tables, b: u8, p: u8) -> Tables
-    ensures { λ r. ⌜ r ≡ service b p t ⌝ }
-{
-    let process = tables::process_at(t, p);
-    let place = process.place;
+    if p == 0 {
+        return false;
+    }
+    if 32 < p {
+        return false;
+    }
     match place {
-        Place::Nowhere => t,
-        Place::Running => t,
-        Place::Ready => t,
-        Place::Parked => t,
-        Place::Waiting(_) => t,
-        Place::Getting(_, l) => served_getter(t, b, p, l),
-        Place::Putting(_, l) => served_putter(t, b, p, l),
-        Place::Asleep(_) => t,
+        Place::Nowhere => false,
+        Place::Running => false,
+        Place::Ready => false,
+        Place::Parked => false,
+        Place::Waiting(_) => false,
+        Place::Getting(_, _) => true,
+        Place::Putting(_, _) => true,
+        Place::Asleep(_) => false,
     }
 }
 
-// Those whom the plan has chosen are served, one after the other.
+// What the service of one in this place leaves of the ring and of its parcel: a getter's bytes lie in its parcel, a putter's
+// bytes enter the ring and its parcel is emptied.
+fn exchanged(ring: Ring, parcel: Parcel, place: Place) -> Moved
+    ensures { λ r. ⌜ r ≡ exchanged place ring parcel ⌝ }
+{
+    match place {
+        Place::Nowhere => Moved { ring, parcel },
+        Place::Running => Moved { ring, parcel },
+        Place::Ready => Moved { ring, parcel },
+        Place::Parked => Moved { ring, parcel },
+        Place::Waiting(_) => Moved { ring, parcel },
+        Place::Getting(_, l) => bay::get(ring, parcel, 0, l),
+        Place::Putting(_, l) => {
+            let fuller = bay::put(ring, parcel, 0, l);
+            let empty = bay::empty_parcel();
+            Moved {
+                ring: fuller,
+                parcel: empty,
+            }
+        }
+        Place::Asleep(_) => Moved { ring, parcel },
+    }
+}
+
+// Those whom the plan has chosen are served, one after the other: transferred and released.
 fn services(t: Tables, b: u8, plan: Plan) -> Tables
     requires { ⌜ (plan .getter ≤ 32) × (plan .putter ≤ 32) ⌝ }
     ensures { λ r. ⌜ r ≡ services b (chosen plan) t ⌝ }
 {
     let count = plan.getter as usize + plan.putter as usize;
-    let mut next = t;
+    let mut ring = tables::ring_in(t, b);
+    let mut order = t.order;
+    let mut processes = t.processes;
+    let mut parcels = t.parcels;
     let mut i: usize = 0;
     while i < count {
-        next = service(next, b, plan.served[i]);
+        let p = plan.served[i];
+        let k = tables::entry_of(p);
+        let process = processes[k];
+        let place = process.place;
+        if at_ring(p, place) {
+            let parcel = parcels[k];
+            let moved = exchanged(ring, parcel, place);
+            let left = moved.ring;
+            ring = left;
+            let filled = moved.parcel;
+            parcels[k] = filled;
+            let after = ready::released_process(process);
+            processes[k] = after;
+            let last = arrivals::moved_last(order, p);
+            order = last;
+        }
         i += 1;
     }
-    next
+    let mut next = t;
+    next.order = order;
+    next.processes = processes;
+    next.parcels = parcels;
+    tables::with_ring(next, b, ring)
 }
 
 // The lines of ring n, which lies in bay b, are served.

@@ -39,11 +39,8 @@ mul-process c = search needs
 array-copy-out-process : tie.Need-array-copy-out-process Inv-loop μ-loop
 array-copy-out-process c = search needs
 
-released-to-requires : tie.Need-released-to-requires Inv-loop μ-loop
-released-to-requires c κs = search needs
-
-placed-requires : tie.Need-placed-requires Inv-loop μ-loop
-placed-requires c κs = search needs
+released-process-requires : tie.Need-released-process-requires Inv-loop μ-loop
+released-process-requires c κs = search needs
 
 mul-processes : tie.Need-mul-processes Inv-loop μ-loop
 mul-processes c = search needs
@@ -64,7 +61,7 @@ loop-again c =
     let long : length (a .t2) ≡ 32 = search (len-map, needs) in
     let next = one-more (a .t2) (at .i) (seated (a .t) (at .order) (at .processes)) in
     ⊎-elim
-    (λ w. (search needs, rw (w .7) (simp length-set (at .inv .1)), rw (w .6, w .7) (next _ (omega arith) (one-released (a .t) _ _ _ _ (w .0 .taken) (w .1 .ensures) _ _ (omega (arith, w .2 .taken, at .inv .1)) (rw (w .4 .ensures) at (w .5 .ensures))) ∙ at .inv .2)))
+    (λ w. (search needs, rw (w .6) (simp length-set (at .inv .1)), rw (w .5, w .6) (next _ (omega arith) (one-released (a .t) _ _ _ _ (w .0 .taken) (w .1 .ensures) _ _ (omega (arith, w .2 .taken, at .inv .1)) (w .4 .ensures)) ∙ at .inv .2)))
     (⊎-elim
     (λ w. (search needs, rw (w .4) (at .inv .1), rw (w .3, w .4) (next _ (omega arith) (past-released (a .t) _ _ _ _ (w .0 .taken) (w .1 .ensures) (omega (arith, w .2 .left, at .inv .1))) ∙ at .inv .2)))
     (λ w. (search needs, rw (w .2) (at .inv .1), rw (w .1, w .2) (next _ (omega arith) (nobody-released _ _ (w .0 .left)) ∙ at .inv .2))))
@@ -89,8 +86,7 @@ released-all-spec =
     cast-k
     mul-process
     array-copy-out-process
-    released-to-requires
-    placed-requires
+    released-process-requires
     mul-processes
     array-set-from-processes
     add-i
