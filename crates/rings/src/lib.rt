@@ -301,6 +301,9 @@ fn services(t: Tables, b: u8, plan: Plan) -> Tables
     ensures { λ r. ⌜ r ≡ services b (chosen plan) t ⌝ }
 {
     let count = plan.getter as usize + plan.putter as usize;
+    if count == 0 {
+        return t;
+    }
     let mut ring = tables::ring_in(t, b);
     let mut order = t.order;
     let mut processes = t.processes;

@@ -154,11 +154,10 @@ pub fn conditionally_waited(t: Tables, n: u8) -> Step
 fn signalled_at(t: Tables, n: u8, kind: Kind) -> Tables
     ensures { λ r. ⌜ r ≡ signalledAt n t kind ⌝ }
 {
-    let higher = with_kind(t, n, raised(kind));
     if has_line(t, n) {
         return ready::let_through(t, Line::Semaphore(n));
     }
-    higher
+    with_kind(t, n, raised(kind))
 }
 
 // Signal.

@@ -34,13 +34,19 @@ cast-count-2 c = search needs
 add-count : tie.Need-add-count Inv-loop μ-loop
 add-count c = search needs
 
+returns : tie.Need-returns Inv-loop μ-loop
+returns c =
+    let a = c .before .args in
+    let long : length (a .t3 .served) ≡ 64 = all-places (c .before) in
+    sym (no-more (a .b) (a .t3 .served) (a .t3 .getter + a .t3 .putter) 0 (a .t) (omega arith) (omega (arith, c .if1 .taken)))
+
 ring-in-requires : tie.Need-ring-in-requires Inv-loop μ-loop
 ring-in-requires c κs = search needs
 
 loop-holds : tie.Need-loop-holds Inv-loop μ-loop
 loop-holds c =
-    let t = c .before .before .before .before .args .t in
-    let b = c .before .before .before .before .args .b in
+    let t = c .before .before .before .before .before .args .t in
+    let b = c .before .before .before .before .before .args .b in
     let taken = c .before .before .before .ring-in .ensures in
     (search needs, search (len-map, needs), search (len-map, needs), first-its t b _ taken, ap (services b _) (first-parts t b _ taken))
 
@@ -94,11 +100,11 @@ loop-less c = search needs
 
 loop-again : tie.Need-loop-again Inv-loop μ-loop
 loop-again c =
-    let a = c .before .before .before .before .before .before .before .before .before .before .before .args in
+    let a = c .before .before .before .before .before .before .before .before .before .before .before .before .args in
     let at = c .before .before .before .before .before .before .loop in
     let entry = c .before .before .before .entry-of .ensures in
     let seen = c .before .at-ring .ensures in
-    let long : length (a .t3 .served) ≡ 64 = all-places (c .before .before .before .before .before .before .before .before .before .before .before) in
+    let long : length (a .t3 .served) ≡ 64 = all-places (c .before .before .before .before .before .before .before .before .before .before .before .before) in
     let next = one-more (a .b) (a .t3 .served) (a .t3 .getter + a .t3 .putter) (at .i) _ (parts (a .t) (a .b) (at .ring) (at .order) (at .processes) (at .parcels)) in
     ⊎-elim
     (λ w.
@@ -116,17 +122,17 @@ loop-again c =
       rw (w .1) (at .inv .3),
       rw (w .1, w .2, w .3, w .4) (next _ (omega arith) (omega arith) refl (none-served (a .b) _ _ _ _ _ (at .inv .1) entry seen (w .0 .left)) ∙ at .inv .4),
     ))
-    (c .if1 .came)
+    (c .if2 .came)
 
 with-ring-requires : tie.Need-with-ring-requires Inv-loop μ-loop
 with-ring-requires c κs = search needs
 
-returns : tie.Need-returns Inv-loop μ-loop
+returns-2 : tie.Need-returns-2 Inv-loop μ-loop
 unfolding withRing
-returns c =
-    let a = c .before .before .before .before .before .before .before .args in
+returns-2 c =
+    let a = c .before .before .before .before .before .before .before .before .args in
     let at = c .before .before .loop in
-    let long : length (a .t3 .served) ≡ 64 = all-places (c .before .before .before .before .before .before .before) in
+    let long : length (a .t3 .served) ≡ 64 = all-places (c .before .before .before .before .before .before .before .before) in
     c .with-ring .ensures ∙ sym (no-more (a .b) (a .t3 .served) (a .t3 .getter + a .t3 .putter) (at .i) _ (omega arith) (omega arith)) ∙ at .inv .4
 
 pub services-spec : {M : Type 1} → statement M
@@ -138,6 +144,7 @@ services-spec =
     cast-count
     cast-count-2
     add-count
+    returns
     ring-in-requires
     loop-holds
     element-copy-out-p
@@ -158,4 +165,4 @@ services-spec =
     loop-less
     loop-again
     with-ring-requires
-    returns)
+    returns-2)
