@@ -1,16 +1,21 @@
 -- What the loops and the plan write, one step on; and a turn of the serving.
 use Prim.Native.Nat.{ℕ, _+_, _-_, _≤_, _<_}
-use mathlib.Core.Path.{_≡_, sym, _∙_}
-use mathlib.Core.Bool.{Bool, true, false, cond}
+use mathlib.Core.Path.{_≡_, refl, sym, _∙_}
+use mathlib.Core.Bool.{Bool, true, false, cond, true≢false}
 use mathlib.Core.List.{List, [], _∷_, _++_, map, append-nil, append-assoc}
 use lib.Dec.{eqb, leb, ltb}
 use borrow.Author.Tests.{ltb-true, ltb-false}
 use Rattle.basics.specs.Tests.{test, holds, fails}
-use Rattle.arrivals.specs.Order.{first}
+use Rattle.arrivals.specs.Order.{first, keep}
 use Rattle.bay.specs.declared.Holding.the-variants.{Bytes}
 use Rattle.bay.specs.Bay.{parcelOf, zeros}
 use Rattle.tables.specs.declared.Tables.{Tables}
-use Rattle.rings.specs.Serving.{lengthFor, getterGoes, putterGoes, who, inTurn, service, services}
+use Rattle.tables.specs.declared.Place.{Place}
+use Rattle.tables.specs.declared.Place.the-variants.{Nowhere, Running, Ready, Parked, Waiting, Getting, Putting, Asleep}
+use Rattle.tables.specs.declared.Line.the-variants.{Getters, Putters}
+use Rattle.tables.specs.Access.{numbered, nobody, ringIn}
+use Rattle.tables.specs.Lines.{stands, standing, line, waitsAt, waitingAt, inLinesOf}
+use Rattle.rings.specs.Serving.{lengthsOf, lengthFor, getterGoes, putterGoes, who, inTurn, service, services, turns, served}
 use Rattle.rings.specs.Laws.{getter-first, putter-first, nobody-first}
 use native.Mathlib.Omega.{arith}
 use native.Mathlib.Numerals.{add-one}
@@ -108,3 +113,60 @@ all-cleared b kept l i h u long whole e =
 pub all-kept : (b : List ℕ) (l : ℕ) → 64 ≤ l → length b ≡ 64 → record { bytes = b; holds = Bytes 64 } ≡ parcelOf (take l b)
 unfolding parcelOf zeros
 all-kept b l h long = let whole : length b ≤ l = omega arith in rw (take-all l b whole, long, append-nil)
+
+-- ---- nobody stands in the lines of a ring
+
+-- Where nobody passes a test, nobody passes a narrower one
+none-kept : (f g : ℕ → Bool) → ((x : ℕ) → f x ≡ true → g x ≡ true) → (l : List ℕ) → length (keep g l) ≡ 0 → keep f l ≡ []
+none-kept f g narrower [] h = refl
+none-kept f g narrower (x ∷ l) h =
+    elim (test (g x)) [
+      | holds e ↦ absurd (omega (arith, rw e at h))
+      | fails e ↦
+          elim (test (f x)) [
+            | holds k ↦ absurd (true≢false (sym (narrower x k) ∙ e))
+            | fails k ↦ rw k (none-kept f g narrower l (rw e at h))
+          ]
+    ]
+
+-- A getter and a putter stand in the lines of their ring
+getter-waits : (n : ℕ) (place : Place) → stands (Getters n) place ≡ true → waitsAt n place ≡ true
+unfolding stands waitsAt
+getter-waits n Nowhere h = absurd (true≢false (sym h))
+getter-waits n Running h = absurd (true≢false (sym h))
+getter-waits n Ready h = absurd (true≢false (sym h))
+getter-waits n Parked h = absurd (true≢false (sym h))
+getter-waits n (Waiting m) h = absurd (true≢false (sym h))
+getter-waits n (Getting m l) h = h
+getter-waits n (Putting m l) h = absurd (true≢false (sym h))
+getter-waits n (Asleep k) h = absurd (true≢false (sym h))
+
+putter-waits : (n : ℕ) (place : Place) → stands (Putters n) place ≡ true → waitsAt n place ≡ true
+unfolding stands waitsAt
+putter-waits n Nowhere h = absurd (true≢false (sym h))
+putter-waits n Running h = absurd (true≢false (sym h))
+putter-waits n Ready h = absurd (true≢false (sym h))
+putter-waits n Parked h = absurd (true≢false (sym h))
+putter-waits n (Waiting m) h = absurd (true≢false (sym h))
+putter-waits n (Getting m l) h = absurd (true≢false (sym h))
+putter-waits n (Putting m l) h = h
+putter-waits n (Asleep k) h = absurd (true≢false (sym h))
+
+-- Then nobody is served
+none-turns : (n b : ℕ) (t : Tables) → inLinesOf n t ≡ 0 → turns n b t ≡ []
+unfolding turns line inLinesOf getterGoes putterGoes
+none-turns n b t h =
+    rw (
+      none-kept (standing (Getters n) (t .processes)) (waitingAt n (t .processes)) (λ x. getter-waits n (numbered (t .processes) x nobody .place)) (t .order) h,
+      none-kept (standing (Putters n) (t .processes)) (waitingAt n (t .processes)) (λ x. putter-waits n (numbered (t .processes) x nobody .place)) (t .order) h,
+    )
+    (nobody-first (lengthsOf t) (ringIn t b .size) (ringIn t b .held) [] [] refl refl)
+
+none-waiting : (n b : ℕ) (t : Tables) → inLinesOf n t ≡ 0 → t ≡ served n b t
+unfolding served services
+none-waiting n b t h = rw (none-turns n b t h)
+
+-- The same of tables u that have the order and the processes of t
+pub none-waits : (n b : ℕ) (t u : Tables) (k : ℕ) → u .order ≡ t .order → u .processes ≡ t .processes → k ≡ inLinesOf n t → k ≡ 0 → u ≡ served n b u
+unfolding inLinesOf
+none-waits n b t u k o p e z = none-waiting n b u (rw (o, p) (sym e ∙ z))

@@ -448,11 +448,14 @@ fn way_out(t: Tables, n: u8, l: u8) -> Way
     }
 }
 
-// The bytes enter the ring in bay b, and the lines are served.
+// The bytes enter the ring in bay b, and the lines are served. With nobody in them that is all.
 fn put_through(t: Tables, n: u8, b: u8, l: u8, bytes: [u8; 64]) -> Step
     ensures { λ r. ⌜ r ≡ putThrough n b l bytes t ⌝ }
 {
     let next = entered(t, b, parcel_of(bytes, l), l);
+    if tables::in_lines_of(t, n) == 0 {
+        return answers::plainly(next, Outcome::Done);
+    }
     answers::plainly(served(next, n, b), Outcome::Done)
 }
 
@@ -494,7 +497,7 @@ pub fn conditionally_put(t: Tables, n: u8, l: u8, bytes: [u8; 64]) -> Step
     }
 }
 
-// The bytes that left the ring in bay b are the answer's, and the lines are served.
+// The bytes that left the ring in bay b are the answer's, and the lines are served. With nobody in them that is all.
 fn got_from(t: Tables, n: u8, b: u8, l: u8, moved: Moved) -> Step
     ensures { λ r. ⌜ r ≡ gotFrom n b l moved t ⌝ }
 {
@@ -509,6 +512,12 @@ fn got_from(t: Tables, n: u8, b: u8, l: u8, moved: Moved) -> Step
         m: 0,
         bytes: bytes,
     };
+    if tables::in_lines_of(t, n) == 0 {
+        return Step {
+            tables: next,
+            answer: answer,
+        };
+    }
     Step {
         tables: served(next, n, b),
         answer: answer,
