@@ -8,14 +8,20 @@ use borrow.Author.Tests.{ltb-true, ltb-false}
 use Rattle.basics.specs.Tests.{test, holds, fails}
 use Rattle.arrivals.specs.Order.{first, keep}
 use Rattle.bay.specs.declared.Holding.the-variants.{Bytes}
-use Rattle.bay.specs.Bay.{parcelOf, zeros}
+use Rattle.bay.specs.declared.Parcel.{Parcel}
+use Rattle.bay.specs.declared.Moved.{Moved}
+use Rattle.bay.specs.Bay.{parcelOf, emptyParcel, getOf, zeros}
 use Rattle.tables.specs.declared.Tables.{Tables}
 use Rattle.tables.specs.declared.Place.{Place}
 use Rattle.tables.specs.declared.Place.the-variants.{Nowhere, Running, Ready, Parked, Waiting, Getting, Putting, Asleep}
 use Rattle.tables.specs.declared.Line.the-variants.{Getters, Putters}
-use Rattle.tables.specs.Access.{numbered, nobody, ringIn}
+use Rattle.tables.specs.Access.{numbered, nobody, ringIn, withRing}
 use Rattle.tables.specs.Lines.{stands, standing, line, waitsAt, waitingAt, inLinesOf}
-use Rattle.rings.specs.Serving.{lengthsOf, lengthFor, getterGoes, putterGoes, who, inTurn, service, services, turns, served}
+use Rattle.rings.specs.Serving.{lengthsOf, lengthFor, getterGoes, putterGoes, who, inTurn, service, services, turns, entered, served}
+use Rattle.rings.specs.Rings.{putThrough, gotFrom, gotThrough}
+use Rattle.answers.specs.declared.Outcome.the-variants.{Done}
+use Rattle.answers.specs.declared.Step.{Step}
+use Rattle.answers.specs.Answers.{answer, plain, step}
 use Rattle.rings.specs.Laws.{getter-first, putter-first, nobody-first}
 use native.Mathlib.Omega.{arith}
 use native.Mathlib.Numerals.{add-one}
@@ -170,3 +176,20 @@ none-waiting n b t h = rw (none-turns n b t h)
 pub none-waits : (n b : ℕ) (t u : Tables) (k : ℕ) → u .order ≡ t .order → u .processes ≡ t .processes → k ≡ inLinesOf n t → k ≡ 0 → u ≡ served n b u
 unfolding inLinesOf
 none-waits n b t u k o p e z = none-waiting n b u (rw (o, p) (sym e ∙ z))
+
+-- ---- what a transfer leaves, once the lines are served
+
+-- Those whom a plan has chosen by the rule are served
+pub by-plan : (n b : ℕ) (l : List ℕ) (u s : Tables) → s ≡ services b l u → l ≡ turns n b u → s ≡ served n b u
+unfolding served
+by-plan n b l u s e f = e ∙ rw f
+
+pub put-done : (n b l : ℕ) (bytes : List ℕ) (t u s : Tables) (x : Parcel) (r : Step) → x ≡ parcelOf (take l bytes) → u ≡ entered b x l t → s ≡ served n b u → r ≡ step s (plain Done)
+    → r ≡ putThrough n b l bytes t
+unfolding putThrough
+put-done n b l bytes t u s x r e f h k = rw (k, h, f, e)
+
+pub get-done : (n b l : ℕ) (t u s : Tables) (g : Moved) → g ≡ getOf (ringIn t b) emptyParcel 0 l → u ≡ withRing t b (g .ring) → s ≡ served n b u
+    → step s (answer Done 0 l 0 (g .parcel .bytes)) ≡ gotThrough n b l t
+unfolding gotThrough gotFrom
+get-done n b l t u s g e f h = rw (h, f, e)

@@ -47,7 +47,6 @@ ghost use Rattle.rings.specs.Rings.{
   putWaits,
   putIn,
   conditionallyPut,
-  gotFrom,
   gotThrough,
   getWaits,
   got,
@@ -456,7 +455,7 @@ fn put_through(t: Tables, n: u8, b: u8, l: u8, bytes: [u8; 64]) -> Step
     if tables::in_lines_of(t, n) == 0 {
         return answers::plainly(next, Outcome::Done);
     }
-    answers::plainly(served(next, n, b), Outcome::Done)
+    answers::plainly(services(next, b, turns(next, n, b)), Outcome::Done)
 }
 
 // The caller joins the putters, its bytes in its parcel.
@@ -497,14 +496,16 @@ pub fn conditionally_put(t: Tables, n: u8, l: u8, bytes: [u8; 64]) -> Step
     }
 }
 
-// The bytes that left the ring in bay b are the answer's, and the lines are served. With nobody in them that is all.
-fn got_from(t: Tables, n: u8, b: u8, l: u8, moved: Moved) -> Step
-    ensures { λ r. ⌜ r ≡ gotFrom n b l moved t ⌝ }
+// So many bytes leave the ring in bay b and are the answer's, and the lines are served. With nobody in them that is all.
+fn got_through(t: Tables, n: u8, b: u8, l: u8) -> Step
+    ensures { λ r. ⌜ r ≡ gotThrough n b l t ⌝ }
 {
-    let ring = moved.ring;
+    let ring = tables::ring_in(t, b);
+    let moved = bay::get(ring, bay::empty_parcel(), 0, l);
+    let rest = moved.ring;
     let parcel = moved.parcel;
     let bytes = parcel.bytes;
-    let next = tables::with_ring(t, b, ring);
+    let next = tables::with_ring(t, b, rest);
     let answer = Answer {
         outcome: Outcome::Done,
         n: 0,
@@ -519,18 +520,9 @@ fn got_from(t: Tables, n: u8, b: u8, l: u8, moved: Moved) -> Step
         };
     }
     Step {
-        tables: served(next, n, b),
+        tables: services(next, b, turns(next, n, b)),
         answer: answer,
     }
-}
-
-// So many bytes leave the ring in bay b, and the lines are served.
-fn got_through(t: Tables, n: u8, b: u8, l: u8) -> Step
-    ensures { λ r. ⌜ r ≡ gotThrough n b l t ⌝ }
-{
-    let ring = tables::ring_in(t, b);
-    let moved = bay::get(ring, bay::empty_parcel(), 0, l);
-    got_from(t, n, b, l, moved)
 }
 
 // The caller joins the getters.
