@@ -1,13 +1,12 @@
 -- "Turns and bytes for demand 3": what a reader counts of a request, from the request, its reply, and the lines and rings before and after it.
-use Prim.Native.Nat.{ℕ, _+_}
+use Prim.Native.Nat.{ℕ}
 use mathlib.Core.Bool.{Bool, true, false, cond, not}
 use mathlib.Core.List.{List, [], _∷_, _++_}
 use lib.Dec.{eqb}
 use lib.ListN.{length, take}
-use Rattle.arrivals.specs.Order.{count, has, first, keep}
+use Rattle.arrivals.specs.Order.{has, keep}
 use Rattle.bay.specs.declared.Holding.{Holding}
 use Rattle.bay.specs.declared.Holding.the-variants as holdings
-use Rattle.bay.specs.declared.Parcel.{Parcel}
 use Rattle.bay.specs.Bay.{contents}
 use Rattle.tables.specs.declared.Tables.{Tables}
 use Rattle.tables.specs.declared.Kind.{Kind}
