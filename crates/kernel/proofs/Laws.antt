@@ -11,12 +11,15 @@ use Rattle.basics.specs.Tests.{test, holds, fails}
 use Rattle.tables.specs.declared.Tables.{Tables}
 use Rattle.answers.specs.declared.Outcome.{Outcome}
 use Rattle.answers.specs.declared.Outcome.the-variants.{Done, No, Waits}
+use Rattle.answers.specs.declared.Step.{Step}
 use Rattle.answers.specs.Answers.{outcomeNumber}
+use Rattle.ready.specs.Ready.{dispatched}
 use Rattle.records.specs.declared.Record.{Record}
-use Rattle.records.specs.Records.{recordLength, recordOf, recordAt, bytesOf, writtenTo, Bytes}
+use Rattle.records.specs.Records.{recordLength, recordOf, recordAt, bytesOf, reply, writtenTo, Bytes}
+use Rattle.calls.specs.declared.Deed.{Deed}
+use Rattle.calls.specs.declared.Row.{Row}
 use Rattle.calls.specs.Calls.{rowOf}
-use Rattle.refusals.specs.Refusals.{both, allAbove, firstThat, codes, applies, refusal}
-use Rattle.steps.specs.declared.After.{After}
+use Rattle.refusals.specs.Refusals.{refusal}
 use Rattle.steps.specs.Steps.{done as deedDone, replied, repliedBy, refused as refusedStep, steppedBy, stepped}
 use Rattle.layout.specs.Typed.{Typed}
 use Rattle.layout.specs.Layout as layout
@@ -31,53 +34,28 @@ use Rattle.kernel.specs.Called.{Holds, Lengths, refusalReply, Called, le
 pub filled-length : (i : ℕ) (s : List ℕ) → i ≤ length s → length (replicate i 0 ++ drop i s) ≡ length s
 filled-length i s h = simp (length-append, length-replicate, length-drop) (omega arith)
 
--- ---- a refusal's code is 41 or more, any other below 3
-
-both-first : (a b : Bool) → both a b ≡ true → a ≡ true
-both-first true b e = refl
-both-first false b e = e
-
-both-second : (a b : Bool) → both a b ≡ true → b ≡ true
-both-second true b e = e
-both-second false b e = absurd (true≢false (sym e))
-
-above : (f : ℕ → Bool) (l : List ℕ) (k : ℕ) → allAbove k l ≡ true → (firstThat f l ≡ 0 → ⊥) → k < firstThat f l
-above f [] k a h = absurd (h refl)
-above f (j ∷ l) k a h =
-    elim (test (f j)) [
-      | holds e ↦ rw e (ltb-true k j (both-first (ltb k j) (allAbove k l) a))
-      | fails e ↦ rw e (above f l k (both-second (ltb k j) (allAbove k l) a) (λ z. h (rw e z)))
-    ]
-
-refusal-above : (t : Tables) (r : Record) → (refusal t r ≡ 0 → ⊥) → 40 < refusal t r
-unfolding refusal
-refusal-above t r h = above (λ k. applies k t r) codes 40 refl h
-
 small : (o : Outcome) → outcomeNumber o < 3
 small Done = omega arith
 small No = omega arith
 small Waits = omega arith
 
--- The step of a refused request, and the code of one that is done
+-- The step of a refused request, that of an accepted one, and the code of the latter
 pub refused-step : (t : Tables) (r : Record) → (refusal t r ≡ 0 → ⊥) → stepped t r .reply ≡ refusalReply (refusal t r) (t .running)
 unfolding stepped steppedBy refusedStep
 refused-step t r h = elim (test (eqb (refusal t r) 0)) [ holds e ↦ absurd (h (eqb-true _ 0 e)) | fails e ↦ rw e ]
 
+pub accepted-step : (t : Tables) (r : Record) → refusal t r ≡ 0 → stepped t r ≡ replied (deedDone (rowOf (r .what) .deed) r t)
+unfolding stepped steppedBy
+accepted-step t r h = rw (eq-eqb (refusal t r) 0 h)
+
+-- The deed of the request's row is done, where some deed is, and it is that of the row
+pub deed-done : (r : Record) (t : Tables) {row : Row} {d : Deed} {a b : Step} → row ≡ rowOf (r .what) → row .deed ≡ d → a ≡ b → b ≡ deedDone d r t
+    → a ≡ deedDone (rowOf (r .what) .deed) r t
+deed-done r t e f g h = g ∙ h ∙ ap (λ x. deedDone x r t) (sym f ∙ ap (λ x. x .deed) e)
+
 pub done-code : (t : Tables) (r : Record) → refusal t r ≡ 0 → stepped t r .reply .what < 3
-unfolding stepped steppedBy replied repliedBy
-done-code t r h = rw (eq-eqb (refusal t r) 0 h) (small (deedDone (rowOf (r .what) .deed) r t .answer .outcome))
-
-pub was-refused : (t : Tables) (r : Record) → 41 ≤ stepped t r .reply .what → refusal t r ≡ 0 → ⊥
-was-refused t r h z = omega (arith, done-code t r z)
-
-pub was-done : (t : Tables) (r : Record) → stepped t r .reply .what < 41 → refusal t r ≡ 0
-was-done t r h =
-    elim (test (eqb (refusal t r) 0)) [
-      | holds e ↦ eqb-true (refusal t r) 0 e
-      | fails e ↦
-          (let n = eqb-false (refusal t r) 0 e in
-          absurd (omega (arith, refusal-above t r n, ap (λ x. x .what) (refused-step t r n))))
-    ]
+unfolding replied repliedBy
+done-code t r h = rw (accepted-step t r h) (small (deedDone (rowOf (r .what) .deed) r t .answer .outcome))
 
 -- ---- the buffers
 
@@ -99,6 +77,13 @@ written p r h = rw (eq-eqb (length p) recordLength h)
 read-at : (q : List ℕ) → length q ≡ recordLength → recordAt q ≡ recordOf q
 unfolding recordAt
 read-at q h = rw (eq-eqb (length q) recordLength h)
+
+-- The end of an accepted call, from who is due and the outcome's number
+pub ended : (x : Step) (s p : List ℕ) {u : Tables} {k : ℕ} {s′ p′ : List ℕ} → u ≡ dispatched (x .tables) → k ≡ outcomeNumber (x .answer .outcome) → s′ ≡ layout.writtenTo s u
+    → p′ ≡ writtenTo p (reply k (u .running) (x .answer .n) (x .answer .l) (x .answer .m) (x .answer .bytes))
+    → (k ≡ replied x .reply .what) × (s′ ≡ layout.writtenTo s (replied x .tables)) × (p′ ≡ writtenTo p (replied x .reply))
+unfolding replied repliedBy
+ended x s p e c v w = (c, v ∙ ap (layout.writtenTo s) e, w ∙ rw (e, c))
 
 module _ (s q p : List ℕ) where
   pub request-wrong : (length q ≡ recordLength → ⊥) → Called s q p 39 s p
@@ -135,26 +120,34 @@ module _ (s q p : List ℕ) where
           (sym (decided.sound-decided t lists .sure (rw (same-tables t u typed (a .typed) (stands ∙ sym (a .bytes))) (a .sound))) ∙ sym tests ∙ not-true d h))
           refl refl (w ∙ written p r pl ∙ ap bytesOf e)
 
-      module _ (sound : not d ≡ false) {r : Record} {a : After} (asked : r ≡ recordAt q) (steps : a ≡ stepped t r) where
+      module _ (sound : not d ≡ false) {r : Record} {code : ℕ} (asked : r ≡ recordAt q) (refuses : code ≡ refusal t r) where
         state-held : Holds s t
         state-held = record { typed = typed; bytes = stands; sound = decided.sound-decided t lists .yes (sym tests ∙ not-false d sound) }
 
-        steps-here : a ≡ stepped t (recordOf q)
-        steps-here = steps ∙ ap (stepped t) (asked ∙ read-at q ql)
+        asked-here : r ≡ recordOf q
+        asked-here = asked ∙ read-at q ql
+
+        refuses-here : code ≡ refusal t (recordOf q)
+        refuses-here = refuses ∙ ap (refusal t) asked-here
 
         -- A refusal
-        pub is-refused : {p′ : List ℕ} → 41 ≤ a .reply .what → p′ ≡ writtenTo p (a .reply) → Called s q p (a .reply .what) s p′
-        is-refused h w =
-            let n = was-refused t (recordOf q) (rw (← steps-here) h) in
-            let e : a .reply ≡ refusalReply (refusal t (recordOf q)) (t .running) = ap (λ x. x .reply) steps-here ∙ refused-step t (recordOf q) n in
-            refused lengths t state-held n (ap (λ x. x .what) e) refl (w ∙ written p (a .reply) pl ∙ ap bytesOf e)
+        pub is-refused : {a : Record} {p′ : List ℕ} → (code ≡ 0 → ⊥) → a ≡ refusalReply code (t .running) → p′ ≡ writtenTo p a → Called s q p code s p′
+        is-refused {a} h e w =
+            refused lengths t state-held (λ z. h (refuses-here ∙ z)) refuses-here refl
+            (w ∙ written p a pl ∙ ap bytesOf (e ∙ ap (λ k. refusalReply k (t .running)) refuses-here))
 
         -- Done
-        pub is-done : {s′ p′ : List ℕ} → a .reply .what < 41 → s′ ≡ layout.writtenTo s (a .tables) → p′ ≡ writtenTo p (a .reply) → Called s q p (a .reply .what) s′ p′
-        is-done h v w =
-            done lengths t state-held (was-done t (recordOf q) (rw (← steps-here) h)) (ap (λ x. x .reply .what) steps-here)
-            (v ∙ state-written (a .tables) ∙ ap (λ x. encode (x .tables)) steps-here)
-            (w ∙ written p (a .reply) pl ∙ ap (λ x. bytesOf (x .reply)) steps-here)
+        pub is-done : {x : Step} {k : ℕ} {s′ p′ : List ℕ} → code ≡ 0 → x ≡ deedDone (rowOf (r .what) .deed) r t
+            → k ≡ replied x .reply .what → s′ ≡ layout.writtenTo s (replied x .tables) → p′ ≡ writtenTo p (replied x .reply) → Called s q p k s′ p′
+        is-done {x} h steps c v w =
+            done lengths t state-held accepted (c ∙ ap (λ a. a .reply .what) here) (v ∙ state-written (replied x .tables) ∙ ap (λ a. encode (a .tables)) here)
+            (w ∙ written p (replied x .reply) pl ∙ ap (λ a. bytesOf (a .reply)) here)
           where
+            accepted : refusal t (recordOf q) ≡ 0
+            accepted = sym refuses-here ∙ h
+
+            here : replied x ≡ stepped t (recordOf q)
+            here = ap replied (steps ∙ ap (λ a. deedDone (rowOf (a .what) .deed) a t) asked-here) ∙ sym (accepted-step t (recordOf q) accepted)
+
             state-written : (u : Tables) → layout.writtenTo s u ≡ encode u
             state-written u = unfold layout.writtenTo in rw (eq-eqb (length s) stateLength (ap length (sym stands) ∙ length-encode t typed))

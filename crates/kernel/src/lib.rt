@@ -1,8 +1,13 @@
 // What the board calls: three functions on buffers that it lends.
+use answers::Outcome;
+use answers::Step;
+use calls::Deed;
 use records::Record;
 ghost use mathlib.Core.Path.{_≡_};
 ghost use Rattle.layout.specs.Layout.{stateLength};
 ghost use Rattle.records.specs.Records.{reply, writtenTo};
+ghost use Rattle.layout.specs.Layout as layout;
+ghost use Rattle.steps.specs.Steps.{replied};
 ghost use Rattle.kernel.specs.Called.{Called, freshCode, freshState, refusalReply};
 
 // How many bytes a state has.
@@ -29,18 +34,40 @@ pub extern "C" fn brombeertor_fresh(state: &mut [u8]) -> u32
     0
 }
 
-// The reply to a state that is not sound.
-fn not_sound() -> Record
-    ensures { λ r. ⌜ r ≡ refusalReply 40 0 ⌝ }
+// A refusal's reply: the code, the running process, and zeros.
+fn refusal_reply(code: u8, running: u8) -> Record
+    ensures { λ r. ⌜ r ≡ refusalReply code running ⌝ }
 {
     Record {
-        what: 40,
-        who: 0,
+        what: code,
+        who: running,
         n: 0,
         l: 0,
         m: 0,
         bytes: [0; 64],
     }
+}
+
+// The end of an accepted call: whoever is due runs, and reply and state are written.
+fn finished(state: &mut [u8], answer: &mut [u8], step: Step) -> u32
+    ensures { λ r. ⌜ (r ≡ replied step .reply .what) × (now (state .exit) ≡ layout.writtenTo (now (state .entry)) (replied step .tables)) × (now (answer .exit) ≡ writtenTo (now (answer .entry)) (replied step .reply)) ⌝ }
+{
+    let done = step.tables;
+    let next = ready::dispatched(done);
+    let said = step.answer;
+    let outcome = said.outcome;
+    let bytes = said.bytes;
+    let reply = Record {
+        what: answers::outcome_number(outcome),
+        who: next.running,
+        n: said.n,
+        l: said.l,
+        m: said.m,
+        bytes,
+    };
+    records::write(answer, reply);
+    layout::write(state, next);
+    reply.what as u32
 }
 
 // Carries out a request on a state: the code is returned and stands in the reply.
@@ -55,21 +82,50 @@ pub extern "C" fn brombeertor_call(state: &mut [u8], request: &[u8], answer: &mu
         return 39;
     }
     if !layout::is_state(&*state) {
-        records::write(&mut *answer, not_sound());
+        records::write(&mut *answer, refusal_reply(40, 0));
         return 40;
     }
     let t = layout::read(&*state);
     if !sound::sound(t) {
-        records::write(&mut *answer, not_sound());
+        records::write(&mut *answer, refusal_reply(40, 0));
         return 40;
     }
-    let after = steps::stepped(t, records::read(request));
-    let reply = after.reply;
-    records::write(&mut *answer, reply);
-    if 41 <= reply.what {
-        return reply.what as u32;
+    let r = records::read(request);
+    let code = refusals::refusal(t, r);
+    if code != 0 {
+        records::write(&mut *answer, refusal_reply(code, t.running));
+        return code as u32;
     }
-    let next = after.tables;
-    layout::write(&mut *state, next);
-    reply.what as u32
+    let row = calls::row_of(r.what);
+    let deed = row.deed;
+    let n = r.n;
+    let l = r.l;
+    let bytes = r.bytes;
+    let step = match deed {
+        Deed::Unknown => answers::plainly(t, Outcome::No),
+        Deed::Tick => processes::ticked(t, 1),
+        Deed::CreateProcess => processes::created(t, l),
+        Deed::DeleteMyself => processes::deleted_myself(t),
+        Deed::Suspend => processes::suspended(t, n),
+        Deed::Resume => processes::resumed(t, n),
+        Deed::ChangePriority => processes::prioritised(t, n, l),
+        Deed::Schedule => processes::scheduled(t),
+        Deed::ProcessState => processes::stated(t, n),
+        Deed::Sleep => processes::slept(t, r.m),
+        Deed::CreateStructure => structures::created(t, l, r.m),
+        Deed::DeleteStructure => structures::deleted(t, n),
+        Deed::StructureValue => structures::valued(t, n),
+        Deed::Signal => semaphores::signalled(t, n),
+        Deed::ConditionalSignal => semaphores::conditionally_signalled(t, n),
+        Deed::SignalAll => semaphores::all_signalled(t, n),
+        Deed::Wait => semaphores::waited(t, n),
+        Deed::ConditionalWait => semaphores::conditionally_waited(t, n),
+        Deed::Put => rings::put_in(t, n, l, bytes),
+        Deed::ConditionalPut => rings::conditionally_put(t, n, l, bytes),
+        Deed::Get => rings::got(t, n, l),
+        Deed::ConditionalGet => rings::conditionally_got(t, n, l),
+        Deed::ResetRing => rings::reset_ring(t, n),
+        Deed::Collect => rings::collected(t),
+    };
+    finished(state, answer, step)
 }
