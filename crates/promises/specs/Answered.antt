@@ -15,8 +15,7 @@ use Rattle.records.specs.Records.{recordLength, recordOf}
 use Rattle.calls.specs.Calls.{rowOf}
 use Rattle.refusals.specs.Refusals.{both, codes, appliesTo, applies, refusal}
 use Rattle.refusals.specs.Laws.{given-applies}
-use Rattle.steps.specs.declared.After.{After}
-use Rattle.steps.specs.Steps.{done, replied, refused, steppedBy, stepped}
+use Rattle.steps.specs.Steps.{After, done, replied, refused, steppedBy, stepped}
 use Rattle.sound.specs.Sound.{Settled}
 use Rattle.promises.specs.Changes.{Steady}
 use Rattle.promises.specs.KeptReady.{sound-steady}

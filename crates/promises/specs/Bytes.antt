@@ -21,8 +21,7 @@ use Rattle.records.specs.Records.{recordLength, recordOf, recordAt, bytesOf, wr
 use Rattle.records.specs.Laws.{record-proper}
 use Rattle.refusals.specs.Refusals.{firstThat, codes, applies, refusal}
 use Rattle.refusals.specs.Laws.{given-applies, none-applies, lowest as lowest-of, lowest-refusal}
-use Rattle.steps.specs.declared.After.{After}
-use Rattle.steps.specs.Steps.{done as deedDone, replied, repliedBy, refused as refusedStep, steppedBy, stepped}
+use Rattle.steps.specs.Steps.{After, done as deedDone, replied, repliedBy, refused as refusedStep, steppedBy, stepped}
 use Rattle.layout.specs.Typed.{Typed, Every}
 use Rattle.layout.specs.Layout as layout
 use Rattle.layout.specs.Layout.{stateLength, encode, decode, isState}
@@ -79,21 +78,23 @@ some-outcome s q p bytes =
                 called = no-sound s q p ql pl bytes {b = isState s} {d = soundB (decode s)} refl (rw g refl) refl refl (rw h refl) refl refl;
               }
           | holds h ↦
-              (let a = stepped (decode s) (recordAt q) in
-              elim (test (ltb (a .reply .what) 41)) [
+              (let t = decode s in
+              let r = recordAt q in
+              let x = deedDone (rowOf (r .what) .deed) r t in
+              elim (test (eqb (refusal t r) 0)) [
                 | holds i ↦
                     record {
-                      code = a .reply .what;
-                      state = layout.writtenTo s (a .tables);
-                      answer = writtenTo p (a .reply);
-                      called = is-done s q p ql pl bytes {b = isState s} {d = soundB (decode s)} refl (rw g refl) refl refl (rw h refl) {r = recordAt q} refl refl (ltb-true (a .reply .what) 41 i) refl refl;
+                      code = replied x .reply .what;
+                      state = layout.writtenTo s (replied x .tables);
+                      answer = writtenTo p (replied x .reply);
+                      called = is-done s q p ql pl bytes {b = isState s} {d = soundB t} refl (rw g refl) refl refl (rw h refl) {r = r} refl refl (eqb-true (refusal t r) 0 i) refl refl refl refl;
                     }
                 | fails i ↦
                     record {
-                      code = a .reply .what;
+                      code = refusal t r;
                       state = s;
-                      answer = writtenTo p (a .reply);
-                      called = is-refused s q p ql pl bytes {b = isState s} {d = soundB (decode s)} refl (rw g refl) refl refl (rw h refl) {r = recordAt q} refl refl (ltb-false (a .reply .what) 41 i) refl;
+                      answer = writtenTo p (refusalReply (refusal t r) (t .running));
+                      called = is-refused s q p ql pl bytes {b = isState s} {d = soundB t} refl (rw g refl) refl refl (rw h refl) {r = r} refl refl (eqb-false (refusal t r) 0 i) refl refl;
                     }
               ])
         ]

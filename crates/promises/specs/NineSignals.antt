@@ -26,8 +26,7 @@ use Rattle.records.specs.Records.{request, number, lowFirst, bytesOf, recordOf,
 use Rattle.calls.specs.Calls.{table, rowIn, rowOf}
 use Rattle.refusals.specs.Refusals.{unknownCall, wrongCaller, badField, named, deadStructure, wrongKind, deadProcess, wrongSuspension, uncollected, tooLong, isFull, signalsFull, deletesInUse, processesFull, structuresFull, appliesTo, applies, refusal}
 use Rattle.semaphores.specs.Semaphores.{kindOf, withKind, value, lowered, raised, waitedAt, waited, signalledAt, signalled}
-use Rattle.steps.specs.declared.After.{After}
-use Rattle.steps.specs.Steps.{done, repliedBy, replied, steppedBy, stepped}
+use Rattle.steps.specs.Steps.{After, done, repliedBy, replied, steppedBy, stepped}
 use Rattle.sound.specs.Sound.{Settled}
 use Rattle.promises.specs.KeptReady.{sound-steady}
 use Rattle.promises.specs.KeptSemaphores.{signalled-steady, waited-steady}

@@ -14,8 +14,7 @@ use Rattle.tables.specs.declared.Tables.{Tables}
 use Rattle.tables.specs.Access.{fresh}
 use Rattle.records.specs.declared.Record.{Record}
 use Rattle.records.specs.Records.{recordLength, recordOf}
-use Rattle.steps.specs.declared.After.{After}
-use Rattle.steps.specs.Steps.{refused, stepped}
+use Rattle.steps.specs.Steps.{After, refused, stepped}
 use Rattle.promises.specs.Kept.{SoundTables, stepped-sound, fresh-sound}
 
 -- What one byte string does: a request of 72 bytes is carried out; any other is answered 39, by the returned number alone, and changes nothing

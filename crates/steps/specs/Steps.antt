@@ -18,7 +18,11 @@ use Rattle.processes.specs.Processes as processes
 use Rattle.structures.specs.Structures as structures
 use Rattle.semaphores.specs.Semaphores as semaphores
 use Rattle.rings.specs.Rings as rings
-use Rattle.steps.specs.declared.After.{After}
+
+-- The tables after a request, and the reply to it
+pub record After : Type 0 where
+  pub tables : Tables
+  pub reply : Record
 
 -- What an accepted request does to the tables, and what it answers
 unfoldable pub done : Deed → Record → Tables → Step
@@ -47,7 +51,6 @@ done deeds.ConditionalGet r t = rings.conditionallyGot (r .n) (r .l) t
 done deeds.ResetRing r t = rings.resetRing (r .n) t
 done deeds.Collect r t = rings.collected t
 
--- The tables after a request, and the reply to it
 abbrev pub after : Tables → Record → After
 after t r = record { tables = t; reply = r }
 
