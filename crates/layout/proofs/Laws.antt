@@ -2,14 +2,14 @@
 use Prim.Native.Nat.{ℕ, _+_, _*_, _≤_, _<_}
 use mathlib.Core.Path.{_≡_, refl, sym, _∙_}
 use mathlib.Core.Bool.{Bool, _&&_}
-use mathlib.Core.List.{List, [], _∷_, _++_}
+use mathlib.Core.List.{List, [], _++_, append-nil}
 use native.Mathlib.Omega.{arith}
 use native.Mathlib.Nat.{mul-le-mul-right}
 use native.Mathlib.Numerals.{add-one}
-use lib.ListN.{length, getD, set, take, length-append}
+use lib.ListN.{length, getD, take, drop, length-append, drop-of-length-le}
 use lib.Seq.{length-take-le, take-all, take-suc}
 use Rattle.layout.specs.Pieces.{flat, copiedIn, allTo}
-use Rattle.layout.specs.PieceLaws.{copied-none, copied-byte, copied-whole, copied-join, flat-append, flat-one, length-flat}
+use Rattle.layout.specs.PieceLaws.{copied-none, copied-join, flat-append, flat-one, length-flat}
 use Rattle.layout.specs.Typed.{Every, every-at, every-take}
 
 -- ---- written
@@ -53,21 +53,28 @@ allTo-more f i ok b e g = rw (add-one, e, g)
 
 -- ---- one part behind the other
 
--- s is s₀ with the bytes a, k of them, in front
-pub record Begun (s₀ a : List ℕ) (k : ℕ) (s : List ℕ) : Type 0 where
-  pub size : length a ≡ k
-  pub done : s ≡ copiedIn s₀ 0 a
+-- s is s₀ with the bytes a from its byte `at` on, up to its byte k
+pub record Begun (s₀ : List ℕ) (at : ℕ) (a : List ℕ) (k : ℕ) (s : List ℕ) : Type 0 where
+  pub size : at + length a ≡ k
+  pub done : s ≡ copiedIn s₀ at a
 
-pub begun-byte : (s : List ℕ) (x : ℕ) → 0 < length s → Begun s (x ∷ []) 1 (set s 0 x)
-begun-byte s x h = record { size = refl; done = copied-byte s 0 x h }
+-- No part yet
+pub begun-none : (s : List ℕ) (at : ℕ) → Begun s at [] at s
+begun-none s at = record { size = omega arith; done = sym (copied-none s at) }
 
 -- The next part follows
-pub begun-more : {s₀ a s : List ℕ} {k : ℕ} (b next : List ℕ) (n : ℕ) → Begun s₀ a k s → length b ≡ n → k ≤ length s₀ → next ≡ copiedIn s k b → Begun s₀ (a ++ b) (k + n) next
-begun-more {s₀} {a} {s} {k} b next n g e h c =
+pub begun-more : {s₀ a s : List ℕ} {at k : ℕ} (b next : List ℕ) (n : ℕ) → Begun s₀ at a k s → length b ≡ n → k ≤ length s₀ → next ≡ copiedIn s k b → Begun s₀ at (a ++ b) (k + n) next
+begun-more {s₀} {a} {s} {at} {k} b next n g e h c =
     record {
-      size = rw (length-append, g .size, e);
-      done = c ∙ rw (g .done) (copied-join s₀ 0 k a b (omega (arith, g .size)) (omega (arith, g .size)));
+      size = rw length-append (omega (arith, g .size));
+      done = c ∙ rw (g .done) (copied-join s₀ at k a b (omega (arith, g .size)) (omega (arith, g .size)));
     }
 
-pub begun-all : {s₀ a s : List ℕ} {k : ℕ} → Begun s₀ a k s → k ≡ length s₀ → s ≡ a
-begun-all {s₀} {a} {s} {k} g e = g .done ∙ copied-whole s₀ a (g .size ∙ e)
+-- What stands before and behind them is as it was
+pub begun-all : {s₀ a s : List ℕ} {at k : ℕ} → Begun s₀ at a k s → s ≡ take at s₀ ++ a ++ drop k s₀
+unfolding copiedIn
+begun-all g = rw (g .size) at (g .done)
+
+-- and at the end nothing stands behind
+pub begun-end : {s₀ a s : List ℕ} {at k : ℕ} → Begun s₀ at a k s → length s₀ ≤ k → s ≡ take at s₀ ++ a
+begun-end {s₀} {a} {s} {at} {k} g h = begun-all g ∙ rw (drop-of-length-le s₀ {i = k} h) (append-nil (take at s₀ ++ a))

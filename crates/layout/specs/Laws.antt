@@ -8,6 +8,7 @@ use native.Mathlib.Nat.{suc-mul, zero-mul, mul-le-mul-right}
 use borrow.Author.Tests.{eq-eqb, ne-eqb, eqb-true}
 use lib.Dec.{eqb}
 use lib.ListN.{length, getD, take, drop, replicate, length-append, length-drop, length-replicate, replicate-append-replicate}
+use lib.Seq.{take-at, drop-at}
 use Rattle.basics.specs.Tests.{test, holds, fails}
 use Rattle.bay.specs.declared.Holding.{Holding}
 use Rattle.bay.specs.declared.Holding.the-variants as holdings
@@ -28,7 +29,7 @@ use Rattle.records.specs.Laws.{number-lowFirst, lowFirst-number, bytes-drop, by
 use Rattle.layout.specs.Pieces.{flat, entries, allTo, part, same}
 use Rattle.layout.specs.PieceLaws.{length-part, part-bytes, part-join, part-first, part-second, part-whole, length-flat, flat-part, length-entries, getD-entries, entries-are, every-entry, flat-entries, same-true, same-refl, allTo-each, each-allTo}
 use Rattle.layout.specs.Typed.{Every, every-at, every-of, every-map, PlaceTyped, KindTyped, HoldingTyped, ProcessTyped, StructureTyped, RingTyped, ParcelTyped, Typed}
-use Rattle.layout.specs.Layout.{orderAt, processesAt, structuresAt, baysAt, holdingsAt, ringBytesAt, parcelBytesAt, stateLength, flag, placeOf, processBytes, processFrom, valueOf, kindOf, structureBytes, structureFrom, bayBytes, bayFrom, ringBytes, holdingFlag, holdingLength, holdingOf, holdingBytes, parcelFrom, parcelBytes, encode, processIn, structureIn, bayIn, parcelIn, tablesOf, decode, writtenTo, processKept, structureKept, holdingKept, processesKept, structuresKept, holdingsKept, isState}
+use Rattle.layout.specs.Layout.{orderAt, processesAt, structuresAt, baysAt, holdingsAt, ringBytesAt, parcelBytesAt, stateLength, flag, placeOf, processBytes, processFrom, valueOf, kindOf, structureBytes, structureFrom, bayBytes, bayFrom, ringBytes, holdingFlag, holdingLength, holdingOf, holdingBytes, parcelFrom, parcelBytes, controlBytes, heldBytes, encode, processIn, structureIn, bayIn, parcelIn, tablesOf, decode, writtenTo, controlTo, bytesTo, processKept, structureKept, holdingKept, processesKept, structuresKept, holdingsKept, isState}
 
 -- ---- how wide the entries are
 
@@ -60,29 +61,35 @@ parcel-wide = every-map ParcelTyped _ (λ p e. e .room)
 table-long : {A : Type 0} (f : A → List ℕ) (w m : ℕ) (l : List A) → Every (λ x. length (f x) ≡ w) l → length l ≡ m → length (flat f l) ≡ m * w
 table-long f w m l e h = rw h at (length-flat f w l e)
 
-module _ (t : Tables) (typed : Typed t) where
-  pub processes-size : length (flat processBytes (t .processes)) ≡ 256
-  processes-size = table-long processBytes 8 32 (t .processes) (process-wide (t .processes)) (typed .processes-long)
+pub processes-size : (l : List Process) → length l ≡ 32 → length (flat processBytes l) ≡ 256
+processes-size l = table-long processBytes 8 32 l (process-wide l)
 
-  pub structures-size : length (flat structureBytes (t .structures)) ≡ 72
-  structures-size = table-long structureBytes 3 24 (t .structures) (structure-wide (t .structures)) (typed .structures-long)
+pub structures-size : (l : List Structure) → length l ≡ 24 → length (flat structureBytes l) ≡ 72
+structures-size l = table-long structureBytes 3 24 l (structure-wide l)
 
-  pub bays-size : length (flat bayBytes (t .rings)) ≡ 48
-  bays-size = table-long bayBytes 6 8 (t .rings) (bay-wide (t .rings)) (typed .rings-long)
+pub bays-size : (l : List Ring) → length l ≡ 8 → length (flat bayBytes l) ≡ 48
+bays-size l = table-long bayBytes 6 8 l (bay-wide l)
 
-  pub holdings-size : length (flat holdingBytes (t .parcels)) ≡ 64
-  holdings-size = table-long holdingBytes 2 32 (t .parcels) (holding-wide (t .parcels)) (typed .parcels-long)
+pub holdings-size : (l : List Parcel) → length l ≡ 32 → length (flat holdingBytes l) ≡ 64
+holdings-size l = table-long holdingBytes 2 32 l (holding-wide l)
 
-  pub ring-bytes-size : length (flat ringBytes (t .rings)) ≡ 2048
-  ring-bytes-size = table-long ringBytes 256 8 (t .rings) (ring-wide (t .rings) (typed .rings-range)) (typed .rings-long)
+pub ring-bytes-size : (l : List Ring) → Every RingTyped l → length l ≡ 8 → length (flat ringBytes l) ≡ 2048
+ring-bytes-size l e = table-long ringBytes 256 8 l (ring-wide l e)
 
-  pub parcel-bytes-size : length (flat parcelBytes (t .parcels)) ≡ 2048
-  parcel-bytes-size = table-long parcelBytes 64 32 (t .parcels) (parcel-wide (t .parcels) (typed .parcels-range)) (typed .parcels-long)
+pub parcel-bytes-size : (l : List Parcel) → Every ParcelTyped l → length l ≡ 32 → length (flat parcelBytes l) ≡ 2048
+parcel-bytes-size l e = table-long parcelBytes 64 32 l (parcel-wide l e)
 
-  -- The tables' bytes are a state's number of bytes
-  pub length-encode : length (encode t) ≡ stateLength
-  unfolding encode
-  length-encode = simp (length-append, typed .order-long, processes-size, structures-size, bays-size, holdings-size, ring-bytes-size, parcel-bytes-size)
+-- The two parts of the tables' bytes
+abbrev control : Tables → List ℕ
+control t = controlBytes (t .running) (t .order) (t .processes) (t .structures)
+
+abbrev held : Tables → List ℕ
+held t = heldBytes (t .rings) (t .parcels)
+
+-- The first reaches to the bays
+control-size : (t : Tables) → length (t .order) ≡ 32 → length (t .processes) ≡ 32 → length (t .structures) ≡ 24 → length (control t) ≡ baysAt
+unfolding controlBytes
+control-size t o p x = simp (length-append, o, processes-size (t .processes) p, structures-size (t .structures) x)
 
 -- ---- what stands in each part
 
@@ -114,9 +121,40 @@ sections t =
     ∷ flat parcelBytes (t .parcels)
     ∷ []
 
+-- Two times four parts
+eight-joined : (a b c d e f g h : List ℕ) → a ++ b ++ c ++ d ++ (e ++ f ++ g ++ h) ≡ joined (a ∷ b ∷ c ∷ d ∷ e ∷ f ∷ g ∷ h ∷ [])
+unfolding flat
+eight-joined a b c d e f g h = simp (append-assoc, append-nil)
+
 encode-sections : (t : Tables) → encode t ≡ joined (sections t)
-unfolding encode flat
-encode-sections t = simp (append-assoc, append-nil)
+unfolding encode controlBytes heldBytes
+encode-sections t = eight-joined (t .running ∷ []) (t .order) _ _ _ _ _ _
+
+module _ (t : Tables) (typed : Typed t) where
+  -- Where the parts begin, and where the last one ends
+  begins : (length (joined (take 2 (sections t))) ≡ processesAt) × (length (joined (take 3 (sections t))) ≡ structuresAt) × (length (joined (take 4 (sections t))) ≡ baysAt) × (length (joined (take 5 (sections t))) ≡ holdingsAt) × (length (joined (take 6 (sections t))) ≡ ringBytesAt) × (length (joined (take 7 (sections t))) ≡ parcelBytesAt) × (length (joined (sections t)) ≡ stateLength)
+  unfolding flat
+  begins =
+      simp length-append
+      (omega (
+        arith,
+        typed .order-long,
+        processes-size (t .processes) (typed .processes-long),
+        structures-size (t .structures) (typed .structures-long),
+        bays-size (t .rings) (typed .rings-long),
+        holdings-size (t .parcels) (typed .parcels-long),
+        ring-bytes-size (t .rings) (typed .rings-range) (typed .rings-long),
+        parcel-bytes-size (t .parcels) (typed .parcels-range) (typed .parcels-long),
+      ))
+
+  -- The tables' bytes are a state's number of bytes
+  pub length-encode : length (encode t) ≡ stateLength
+  length-encode = ap length (encode-sections t) ∙ begins .6
+
+  -- and from the bays on they are the second part
+  held-behind : drop baysAt (encode t) ≡ held t
+  unfolding encode
+  held-behind = drop-at (control t) (held t) baysAt (control-size t (typed .order-long) (typed .processes-long) (typed .structures-long))
 
 -- An entry of a table of m that is the j-th part, found at its place
 entry-part : {A : Type 0} (t : Tables) (f : A → List ℕ) (l : List A) (j k m w i : ℕ) (d : A) → j < 8 → length (joined (take j (sections t))) ≡ k → getD (sections t) j [] ≡ flat f l → Every (λ x. length (f x) ≡ w) l → length l ≡ m → i < m → part (encode t) (k + i * w) w ≡ f (getD l i d)
@@ -127,34 +165,28 @@ entry-part t f l j k m w i d h e g wide long less =
 
 module _ (t : Tables) (typed : Typed t) (i : ℕ) where
   process-part : (d : Process) → i < 32 → part (encode t) (processesAt + i * 8) 8 ≡ processBytes (getD (t .processes) i d)
-  unfolding flat
   process-part d h =
-      entry-part t processBytes (t .processes) 2 processesAt 32 8 i d (omega arith) (simp (length-append, typed .order-long)) refl (process-wide (t .processes)) (typed .processes-long) h
+      entry-part t processBytes (t .processes) 2 processesAt 32 8 i d (omega arith) (begins t typed .0) refl (process-wide (t .processes)) (typed .processes-long) h
 
   structure-part : (d : Structure) → i < 24 → part (encode t) (structuresAt + i * 3) 3 ≡ structureBytes (getD (t .structures) i d)
-  unfolding flat
   structure-part d h =
-      entry-part t structureBytes (t .structures) 3 structuresAt 24 3 i d (omega arith) (simp (length-append, typed .order-long, processes-size t typed)) refl (structure-wide (t .structures)) (typed .structures-long) h
+      entry-part t structureBytes (t .structures) 3 structuresAt 24 3 i d (omega arith) (begins t typed .1) refl (structure-wide (t .structures)) (typed .structures-long) h
 
   bay-part : (d : Ring) → i < 8 → part (encode t) (baysAt + i * 6) 6 ≡ bayBytes (getD (t .rings) i d)
-  unfolding flat
   bay-part d h =
-      entry-part t bayBytes (t .rings) 4 baysAt 8 6 i d (omega arith) (simp (length-append, typed .order-long, processes-size t typed, structures-size t typed)) refl (bay-wide (t .rings)) (typed .rings-long) h
+      entry-part t bayBytes (t .rings) 4 baysAt 8 6 i d (omega arith) (begins t typed .2) refl (bay-wide (t .rings)) (typed .rings-long) h
 
   holding-part : (d : Parcel) → i < 32 → part (encode t) (holdingsAt + i * 2) 2 ≡ holdingBytes (getD (t .parcels) i d)
-  unfolding flat
   holding-part d h =
-      entry-part t holdingBytes (t .parcels) 5 holdingsAt 32 2 i d (omega arith) (simp (length-append, typed .order-long, processes-size t typed, structures-size t typed, bays-size t typed)) refl (holding-wide (t .parcels)) (typed .parcels-long) h
+      entry-part t holdingBytes (t .parcels) 5 holdingsAt 32 2 i d (omega arith) (begins t typed .3) refl (holding-wide (t .parcels)) (typed .parcels-long) h
 
   ring-part : (d : Ring) → i < 8 → part (encode t) (ringBytesAt + i * 256) 256 ≡ ringBytes (getD (t .rings) i d)
-  unfolding flat
   ring-part d h =
-      entry-part t ringBytes (t .rings) 6 ringBytesAt 8 256 i d (omega arith) (simp (length-append, typed .order-long, processes-size t typed, structures-size t typed, bays-size t typed, holdings-size t typed)) refl (ring-wide (t .rings) (typed .rings-range)) (typed .rings-long) h
+      entry-part t ringBytes (t .rings) 6 ringBytesAt 8 256 i d (omega arith) (begins t typed .4) refl (ring-wide (t .rings) (typed .rings-range)) (typed .rings-long) h
 
   parcel-part : (d : Parcel) → i < 32 → part (encode t) (parcelBytesAt + i * 64) 64 ≡ parcelBytes (getD (t .parcels) i d)
-  unfolding flat
   parcel-part d h =
-      entry-part t parcelBytes (t .parcels) 7 parcelBytesAt 32 64 i d (omega arith) (simp (length-append, typed .order-long, processes-size t typed, structures-size t typed, bays-size t typed, holdings-size t typed, ring-bytes-size t typed)) refl (parcel-wide (t .parcels) (typed .parcels-range)) (typed .parcels-long) h
+      entry-part t parcelBytes (t .parcels) 7 parcelBytesAt 32 64 i d (omega arith) (begins t typed .5) refl (parcel-wide (t .parcels) (typed .parcels-range)) (typed .parcels-long) h
 
 module _ (t : Tables) (typed : Typed t) where
   order-part : part (encode t) orderAt 32 ≡ t .order
@@ -355,8 +387,8 @@ module _ (s : List ℕ) (long : length s ≡ stateLength) (bytes : Bytes s) wher
       }
 
 -- Eight parts, each with a part that is the same
-together : {a b c d e f g h a′ b′ c′ d′ e′ f′ g′ h′ : List ℕ} → a ≡ a′ → b ≡ b′ → c ≡ c′ → d ≡ d′ → e ≡ e′ → f ≡ f′ → g ≡ g′ → h ≡ h′ → a ++ b ++ c ++ d ++ e ++ f ++ g ++ h ≡ a′ ++ b′ ++ c′ ++ d′ ++ e′ ++ f′ ++ g′ ++ h′
-together p q r s t u v w = λ i. p i ++ q i ++ r i ++ s i ++ t i ++ u i ++ v i ++ w i
+together : {a b c d e f g h a′ b′ c′ d′ e′ f′ g′ h′ : List ℕ} → a ≡ a′ → b ≡ b′ → c ≡ c′ → d ≡ d′ → e ≡ e′ → f ≡ f′ → g ≡ g′ → h ≡ h′ → a ++ b ++ c ++ d ++ (e ++ f ++ g ++ h) ≡ a′ ++ b′ ++ c′ ++ d′ ++ (e′ ++ f′ ++ g′ ++ h′)
+together p q r s t u v w = λ i. p i ++ q i ++ r i ++ s i ++ (t i ++ u i ++ v i ++ w i)
 
 -- ---- fresh tables are all zero bytes
 
@@ -450,11 +482,11 @@ order-zeros : replicate 32 0 ≡ zeros 32
 unfolding zeros
 order-zeros = refl
 
-zeros-together : zeros 1 ++ zeros 32 ++ zeros 256 ++ zeros 72 ++ zeros 48 ++ zeros 64 ++ zeros 2048 ++ zeros 2048 ≡ zeros stateLength
+zeros-together : zeros 1 ++ zeros 32 ++ zeros 256 ++ zeros 72 ++ (zeros 48 ++ zeros 64 ++ zeros 2048 ++ zeros 2048) ≡ zeros stateLength
 zeros-together = simp zeros-join
 
 pub encode-fresh : encode fresh ≡ zeros stateLength
-unfolding encode fresh
+unfolding encode controlBytes heldBytes fresh
 encode-fresh =
     together running-zeros order-zeros (flat-zeros processBytes nobody 8 process-zeros 32) (flat-zeros structureBytes nothing 3 structure-zeros 24) (flat-zeros bayBytes emptyBay 6 bay-zeros 8)
     (flat-zeros holdingBytes emptyParcel 2 holding-zeros 32) (flat-zeros ringBytes emptyBay 256 ring-zeros 8) (flat-zeros parcelBytes emptyParcel 64 parcel-zeros 32)
@@ -495,9 +527,9 @@ module _ (s : List ℕ) (long : length s ≡ stateLength) (bytes : Bytes s) wher
   decode-long = rw (eq-eqb (length s) stateLength long)
 
   -- The parts together are all bytes
-  all-parts : part s 0 1 ++ part s 1 32 ++ part s 33 256 ++ part s 289 72 ++ part s 361 48 ++ part s 409 64 ++ part s 473 2048 ++ part s 2521 2048 ≡ s
+  all-parts : part s 0 1 ++ part s 1 32 ++ part s 33 256 ++ part s 289 72 ++ (part s 361 48 ++ part s 409 64 ++ part s 473 2048 ++ part s 2521 2048) ≡ s
   all-parts =
-      rw (part-join s 0 1 32, part-join s 0 33 256, part-join s 0 289 72, part-join s 0 361 48, part-join s 0 409 64, part-join s 0 473 2048, part-join s 0 2521 2048)
+      rw (part-join s 0 1 32, part-join s 0 33 256, part-join s 0 289 72, part-join s 361 48 64, part-join s 361 112 2048, part-join s 361 2160 2048, part-join s 0 361 4208)
       (part-whole s stateLength long)
 
   running-kept : getD s 0 0 ∷ [] ≡ part s 0 1
@@ -530,7 +562,7 @@ module _ (s : List ℕ) (long : length s ≡ stateLength) (bytes : Bytes s) wher
 
   -- Where the three tests hold, the bytes are those of the tables,
   kept-same : kept s ≡ true → encode (tablesOf s) ≡ s
-  unfolding encode tablesOf
+  unfolding encode controlBytes heldBytes tablesOf
   kept-same e =
       let both : (processesKept s && structuresKept s ≡ true) × (holdingsKept s ≡ true) = and-true _ _ e in
       let each : (processesKept s ≡ true) × (structuresKept s ≡ true) = and-true _ _ (both .0) in
@@ -571,6 +603,27 @@ isState-short s h =
       | holds e ↦ absurd (h (sym (ap length (isState-true s e)) ∙ rw (decode-short s h) (length-encode fresh fresh-typed)))
       | fails e ↦ e
     ]
+
+-- ---- a state with one part written to it, and the other
+
+module _ (t u : Tables) (typed : Typed t) where
+  -- The second part stays
+  control-over : controlTo (encode t) (u .running) (u .order) (u .processes) (u .structures) ≡ control u ++ held t
+  unfolding controlTo
+  control-over = rw (eq-eqb (length (encode t)) stateLength (length-encode t typed), held-behind t typed)
+
+  -- So the control part is all to write where the bays and the parcels hold what they held,
+  pub control-written : u .rings ≡ t .rings → u .parcels ≡ t .parcels → controlTo (encode t) (u .running) (u .order) (u .processes) (u .structures) ≡ encode u
+  unfolding encode
+  control-written r p = rw (r, p) control-over
+
+  -- and both parts are all in any case
+  pub all-written : length (u .order) ≡ 32 → length (u .processes) ≡ 32 → length (u .structures) ≡ 24 → bytesTo (controlTo (encode t) (u .running) (u .order) (u .processes) (u .structures)) (u .rings) (u .parcels) ≡ encode u
+  unfolding bytesTo encode
+  all-written o p x =
+      let front : length (control u) ≡ baysAt = control-size u o p x in
+      let long : length (control u ++ held t) ≡ stateLength = rw (length-append, front, ← held-behind t typed, length-drop, length-encode t typed) in
+      rw (control-over, eq-eqb (length (control u ++ held t)) stateLength long, take-at (control u) (held t) baysAt front)
 
 -- What is written to a buffer of a state's length is what is read there
 pub read-written : (s : List ℕ) (t : Tables) → length s ≡ stateLength → Typed t → decode (writtenTo s t) ≡ t

@@ -3,7 +3,7 @@ use Prim.Native.Nat.{ℕ, _+_, _*_, _%_}
 use mathlib.Core.Bool.{Bool, true, false, cond}
 use mathlib.Core.List.{List, [], _∷_, _++_}
 use lib.Dec.{eqb}
-use lib.ListN.{length, getD, drop}
+use lib.ListN.{length, getD, take, drop}
 use Rattle.bay.specs.declared.Holding.{Holding}
 use Rattle.bay.specs.declared.Holding.the-variants.{Nothing, Bytes}
 use Rattle.bay.specs.declared.Parcel.{Parcel}
@@ -125,17 +125,25 @@ parcelBytes p = p .bytes
 
 -- ---- the whole state
 
+-- The control part's bytes
+unfoldable pub controlBytes : ℕ → List ℕ → List Process → List Structure → List ℕ
+controlBytes running order processes structures =
+    (running ∷ [])
+    ++ order
+    ++ flat processBytes processes
+    ++ flat structureBytes structures
+
+-- The bytes of what the bays and the parcels hold
+unfoldable pub heldBytes : List Ring → List Parcel → List ℕ
+heldBytes rings parcels =
+    flat bayBytes rings
+    ++ flat holdingBytes parcels
+    ++ flat ringBytes rings
+    ++ flat parcelBytes parcels
+
 -- The tables' bytes
 unfoldable pub encode : Tables → List ℕ
-encode t =
-    (t .running ∷ [])
-    ++ t .order
-    ++ flat processBytes (t .processes)
-    ++ flat structureBytes (t .structures)
-    ++ flat bayBytes (t .rings)
-    ++ flat holdingBytes (t .parcels)
-    ++ flat ringBytes (t .rings)
-    ++ flat parcelBytes (t .parcels)
+encode t = controlBytes (t .running) (t .order) (t .processes) (t .structures) ++ heldBytes (t .rings) (t .parcels)
 
 -- The entries of the tables by their place in the bytes
 unfoldable pub processIn : List ℕ → ℕ → Process
@@ -168,6 +176,13 @@ decode s = cond (eqb (length s) stateLength) (tablesOf s) fresh
 -- A buffer with the tables written to it; as it was where it is not a state's number of bytes
 unfoldable pub writtenTo : List ℕ → Tables → List ℕ
 writtenTo s t = cond (eqb (length s) stateLength) (encode t) s
+
+-- A buffer with the control part written to it, or with what the bays and the parcels hold; likewise
+unfoldable pub controlTo : List ℕ → ℕ → List ℕ → List Process → List Structure → List ℕ
+controlTo s running order processes structures = cond (eqb (length s) stateLength) (controlBytes running order processes structures ++ drop baysAt s) s
+
+unfoldable pub bytesTo : List ℕ → List Ring → List Parcel → List ℕ
+bytesTo s rings parcels = cond (eqb (length s) stateLength) (take baysAt s ++ heldBytes rings parcels) s
 
 -- Does reading lose nothing of these bytes of a process, of a structure, of what a parcel holds?
 unfoldable pub processKept : List ℕ → Bool

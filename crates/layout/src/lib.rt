@@ -45,6 +45,8 @@ ghost use Rattle.layout.specs.Layout.{
   parcelIn,
   decode,
   writtenTo,
+  controlTo,
+  bytesTo,
   processesKept,
   structuresKept,
   holdingsKept,
@@ -391,6 +393,38 @@ pub fn write(s: &mut [u8], t: Tables)
     write_structures(s, structures);
     let rings = t.rings;
     let parcels = t.parcels;
+    write_bays(s, rings);
+    write_holdings(s, parcels);
+    write_ring_bytes(s, rings);
+    write_parcel_bytes(s, parcels);
+}
+
+// The control part into a buffer of a state's length: running, order, processes, structures. Any other buffer stays as it is.
+pub fn write_control(
+    s: &mut [u8],
+    running: u8,
+    order: [u8; 32],
+    processes: [Process; 32],
+    structures: [Structure; 24],
+)
+    ensures { λ _. ⌜ now (s .exit) ≡ controlTo (now (s .entry)) running order processes structures ⌝ }
+{
+    if s.len() != LENGTH {
+        return;
+    }
+    s[0] = running;
+    copy_in(s, ORDER, &order);
+    write_processes(s, processes);
+    write_structures(s, structures);
+}
+
+// What the bays and the parcels hold into such a buffer.
+pub fn write_bytes(s: &mut [u8], rings: [Ring; 8], parcels: [Parcel; 32])
+    ensures { λ _. ⌜ now (s .exit) ≡ bytesTo (now (s .entry)) rings parcels ⌝ }
+{
+    if s.len() != LENGTH {
+        return;
+    }
     write_bays(s, rings);
     write_holdings(s, parcels);
     write_ring_bytes(s, rings);

@@ -1,14 +1,17 @@
 -- `layout::write` meets its contract: the parts follow each other and leave nothing of the old.
-use mathlib.Core.Path.{_≡_, sym, _∙_}
+use Prim.Native.Nat.{ℕ}
+use mathlib.Core.Path.{_≡_, refl, sym, _∙_}
+use mathlib.Core.List.{List, [], _∷_, _++_, append-assoc}
 use native.Mathlib.Omega.{arith}
 use borrow.Author.Needs.{needs}
 use borrow.Author.Tests.{eq-eqb, ne-eqb}
 use lib.ListN.{length, length-set}
 use Rattle.layout.specs.Typed.{Typed}
-use Rattle.layout.specs.Layout.{stateLength, encode, writtenTo}
+use Rattle.layout.specs.Layout.{stateLength, controlBytes, heldBytes, encode, writtenTo}
+use Rattle.layout.specs.PieceLaws.{copied-byte}
 use Rattle.layout.specs.Laws.{processes-size, structures-size, bays-size, holdings-size, ring-bytes-size, parcel-bytes-size}
 use Rattle.layout.proofs.Owned.{tables-typed}
-use Rattle.layout.proofs.Laws.{begun-byte, begun-more, begun-all}
+use Rattle.layout.proofs.Laws.{begun-none, begun-more, begun-end}
 use Rattle.layout.proofs.write.Statement.{statement}
 use Rattle.layout.proofs.write.Tie as tie
 
@@ -70,8 +73,11 @@ write-parcel-bytes-requires c κs = after-write-ring-bytes (c .before .before .b
 same-length : tie.Need-same-length
 same-length c = after-write-parcel-bytes (c .before .before) ∙ sym (c .before .before .before .before .before .before .before .before .before .before .before .before .before .before .before .before .before .before .before .before .before .before .before .before .before .before .before .before .before .before .before .before .before .before .if1 .left)
 
+regrouped : (a b c d e f g h : List ℕ) → a ++ b ++ c ++ d ++ e ++ f ++ g ++ h ≡ a ++ b ++ c ++ d ++ (e ++ f ++ g ++ h)
+regrouped a b c d e f g h = simp append-assoc
+
 returns-2 : tie.Need-returns-2
-unfolding writtenTo encode
+unfolding writtenTo encode controlBytes heldBytes
 returns-2 c =
     let parcels = c .before .before in
     let rings = parcels .before .before .before .before in
@@ -92,14 +98,14 @@ returns-2 c =
     (begun-more _ _ 48
     (begun-more _ _ 72
     (begun-more _ _ 256
-    (begun-more _ _ 32 (begun-byte s (t .running) (omega arith)) (typed .order-long) (omega arith) (order .copy-in .ensures))
-    (processes-size t typed) (omega arith) (processes .write-processes .ensures))
-    (structures-size t typed) (omega arith) (structures .write-structures .ensures))
-    (bays-size t typed) (omega arith) (bays .write-bays .ensures))
-    (holdings-size t typed) (omega arith) (holdings .write-holdings .ensures))
-    (ring-bytes-size t typed) (omega arith) (rings .write-ring-bytes .ensures))
-    (parcel-bytes-size t typed) (omega arith) (parcels .write-parcel-bytes .ensures) in
-    rw (eq-eqb (length s) stateLength long) (begun-all all (sym long))
+    (begun-more _ _ 32 (begun-more _ _ 1 (begun-none s 0) refl (omega arith) (copied-byte s 0 (t .running) (omega arith))) (typed .order-long) (omega arith) (order .copy-in .ensures))
+    (processes-size _ (typed .processes-long)) (omega arith) (processes .write-processes .ensures))
+    (structures-size _ (typed .structures-long)) (omega arith) (structures .write-structures .ensures))
+    (bays-size _ (typed .rings-long)) (omega arith) (bays .write-bays .ensures))
+    (holdings-size _ (typed .parcels-long)) (omega arith) (holdings .write-holdings .ensures))
+    (ring-bytes-size _ (typed .rings-range) (typed .rings-long)) (omega arith) (rings .write-ring-bytes .ensures))
+    (parcel-bytes-size _ (typed .parcels-range) (typed .parcels-long)) (omega arith) (parcels .write-parcel-bytes .ensures) in
+    rw (eq-eqb (length s) stateLength long) (begun-end all (omega arith) ∙ regrouped (t .running ∷ []) (t .order) _ _ _ _ _ _)
 
 pub write-spec : {M : Type 1} → statement M
 write-spec =
