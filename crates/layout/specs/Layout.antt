@@ -173,16 +173,16 @@ tablesOf s =
 unfoldable pub decode : List ℕ → Tables
 decode s = cond (eqb (length s) stateLength) (tablesOf s) fresh
 
--- A buffer with the tables written to it; as it was where it is not a state's number of bytes
-unfoldable pub writtenTo : List ℕ → Tables → List ℕ
-writtenTo s t = cond (eqb (length s) stateLength) (encode t) s
-
--- A buffer with the control part written to it, or with what the bays and the parcels hold; likewise
+-- A buffer with the control part written to it, or with what the bays and the parcels hold; as it was where it is not a state's number of bytes
 unfoldable pub controlTo : List ℕ → ℕ → List ℕ → List Process → List Structure → List ℕ
 controlTo s running order processes structures = cond (eqb (length s) stateLength) (controlBytes running order processes structures ++ drop baysAt s) s
 
 unfoldable pub bytesTo : List ℕ → List Ring → List Parcel → List ℕ
 bytesTo s rings parcels = cond (eqb (length s) stateLength) (take baysAt s ++ heldBytes rings parcels) s
+
+-- Likewise, with all tables written to it
+unfoldable pub writtenTo : List ℕ → Tables → List ℕ
+writtenTo s t = cond (eqb (length s) stateLength) (encode t) s
 
 -- Does reading lose nothing of these bytes of a process, of a structure, of what a parcel holds?
 unfoldable pub processKept : List ℕ → Bool

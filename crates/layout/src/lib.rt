@@ -44,7 +44,6 @@ ghost use Rattle.layout.specs.Layout.{
   bayIn,
   parcelIn,
   decode,
-  writtenTo,
   controlTo,
   bytesTo,
   processesKept,
@@ -375,28 +374,6 @@ fn write_parcel_bytes(s: &mut [u8], parcels: [Parcel; 32])
         copy_in(s, PARCEL_BYTES + i * 64, &b);
         i += 1;
     }
-}
-
-// The tables into a buffer of a state's length; any other buffer stays as it is.
-pub fn write(s: &mut [u8], t: Tables)
-    ensures { λ _. ⌜ now (s .exit) ≡ writtenTo (now (s .entry)) t ⌝ }
-{
-    if s.len() != LENGTH {
-        return;
-    }
-    s[0] = t.running;
-    let order = t.order;
-    copy_in(s, ORDER, &order);
-    let processes = t.processes;
-    write_processes(s, processes);
-    let structures = t.structures;
-    write_structures(s, structures);
-    let rings = t.rings;
-    let parcels = t.parcels;
-    write_bays(s, rings);
-    write_holdings(s, parcels);
-    write_ring_bytes(s, rings);
-    write_parcel_bytes(s, parcels);
 }
 
 // The control part into a buffer of a state's length: running, order, processes, structures. Any other buffer stays as it is.
