@@ -139,6 +139,33 @@ callNumber ConditionalGet = 21
 callNumber ResetRing = 22
 callNumber Collect = 23
 
+-- Does a request's deed change what rings and parcels hold? Delete myself does, as the process's parcel goes, and so do creation and deletion, of a ring's bay
+unfoldable pub movesBytes : Deed → Bool
+movesBytes Unknown = false
+movesBytes Tick = false
+movesBytes CreateProcess = false
+movesBytes DeleteMyself = true
+movesBytes Suspend = false
+movesBytes Resume = false
+movesBytes ChangePriority = false
+movesBytes Schedule = false
+movesBytes ProcessState = false
+movesBytes Sleep = false
+movesBytes CreateStructure = true
+movesBytes DeleteStructure = true
+movesBytes StructureValue = false
+movesBytes Signal = false
+movesBytes ConditionalSignal = false
+movesBytes SignalAll = false
+movesBytes Wait = false
+movesBytes ConditionalWait = false
+movesBytes Put = true
+movesBytes ConditionalPut = true
+movesBytes Get = true
+movesBytes ConditionalGet = true
+movesBytes ResetRing = true
+movesBytes Collect = true
+
 -- May this caller, 0 the board or 1 the running process, make the request?
 abbrev pub allowed : Callers → ℕ → Bool
 allowed Nobody caller = false

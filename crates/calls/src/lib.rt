@@ -9,6 +9,7 @@ ghost use Rattle.calls.specs.Calls.{
   rowOf,
   isUnknown,
   allowed,
+  movesBytes,
 };
 
 // What a request asks for.
@@ -210,5 +211,37 @@ pub fn is_allowed(callers: Callers, caller: u8) -> bool
         Callers::Process => caller == 1,
         Callers::Board => caller == 0,
         Callers::Either => caller <= 1,
+    }
+}
+
+// Does a request's deed change what rings and parcels hold?
+pub fn moves_bytes(deed: Deed) -> bool
+    ensures { λ r. ⌜ r ≡ movesBytes deed ⌝ }
+{
+    match deed {
+        Deed::Unknown => false,
+        Deed::Tick => false,
+        Deed::CreateProcess => false,
+        Deed::DeleteMyself => true,
+        Deed::Suspend => false,
+        Deed::Resume => false,
+        Deed::ChangePriority => false,
+        Deed::Schedule => false,
+        Deed::ProcessState => false,
+        Deed::Sleep => false,
+        Deed::CreateStructure => true,
+        Deed::DeleteStructure => true,
+        Deed::StructureValue => false,
+        Deed::Signal => false,
+        Deed::ConditionalSignal => false,
+        Deed::SignalAll => false,
+        Deed::Wait => false,
+        Deed::ConditionalWait => false,
+        Deed::Put => true,
+        Deed::ConditionalPut => true,
+        Deed::Get => true,
+        Deed::ConditionalGet => true,
+        Deed::ResetRing => true,
+        Deed::Collect => true,
     }
 }

@@ -18,17 +18,17 @@ use Rattle.records.specs.declared.Record.{Record}
 use Rattle.records.specs.Records.{recordLength, recordOf, recordAt, bytesOf, reply, writtenTo, Bytes}
 use Rattle.calls.specs.declared.Deed.{Deed}
 use Rattle.calls.specs.declared.Row.{Row}
-use Rattle.calls.specs.Calls.{rowOf}
+use Rattle.calls.specs.Calls.{rowOf, movesBytes}
 use Rattle.refusals.specs.Refusals.{refusal}
 use Rattle.steps.specs.Steps.{done as deedDone, replied, repliedBy, refused as refusedStep, steppedBy, stepped}
+use Rattle.steps.specs.Bytes.{stepped-keeps}
 use Rattle.layout.specs.Typed.{Typed}
-use Rattle.layout.specs.Layout as layout
-use Rattle.layout.specs.Layout.{stateLength, encode, decode, isState}
-use Rattle.layout.specs.Laws.{isState-true, isState-false, isState-short, decode-typed, same-tables, length-encode}
+use Rattle.layout.specs.Layout.{encode, decode, isState, controlTo, bytesTo}
+use Rattle.layout.specs.Laws.{isState-true, isState-false, decode-typed, same-tables, control-written, all-written}
 use Rattle.sound.specs.Sound.{Sound}
 use Rattle.sound.specs.Tested.{soundB}
 use Rattle.sound.specs.Decided as decided
-use Rattle.kernel.specs.Called.{Holds, Lengths, refusalReply, Called, lengthWrong, notSound, refused, done}
+use Rattle.kernel.specs.Called.{Holds, Lengths, refusalReply, stored, Called, lengthWrong, notSound, refused, done}
 
 -- A list of which the first i are zero has its length
 pub filled-length : (i : ℕ) (s : List ℕ) → i ≤ length s → length (replicate i 0 ++ drop i s) ≡ length s
@@ -78,12 +78,25 @@ read-at : (q : List ℕ) → length q ≡ recordLength → recordAt q ≡ record
 unfolding recordAt
 read-at q h = rw (eq-eqb (length q) recordLength h)
 
--- The end of an accepted call, from who is due and the outcome's number
-pub ended : (x : Step) (s p : List ℕ) {u : Tables} {k : ℕ} {s′ p′ : List ℕ} → u ≡ dispatched (x .tables) → k ≡ outcomeNumber (x .answer .outcome) → s′ ≡ layout.writtenTo s u
-    → p′ ≡ writtenTo p (reply k (u .running) (x .answer .n) (x .answer .l) (x .answer .m) (x .answer .bytes))
-    → (k ≡ replied x .reply .what) × (s′ ≡ layout.writtenTo s (replied x .tables)) × (p′ ≡ writtenTo p (replied x .reply))
+-- The reply of an accepted call, from who is due and what the step answered
+pub reply-said : (x : Step) {u : Tables} {a : Record} → u ≡ dispatched (x .tables)
+    → a ≡ reply (outcomeNumber (x .answer .outcome)) (u .running) (x .answer .n) (x .answer .l) (x .answer .m) (x .answer .bytes) → a ≡ replied x .reply
 unfolding replied repliedBy
-ended x s p e c v w = (c, v ∙ ap (layout.writtenTo s) e, w ∙ rw (e, c))
+reply-said x e h = h ∙ rw e
+
+pub tables-due : (x : Step) {u : Tables} → u ≡ dispatched (x .tables) → u ≡ replied x .tables
+unfolding replied repliedBy
+tables-due x e = e
+
+-- The control part alone, and both parts
+pub stored-control : (m : Bool) (s : List ℕ) (u : Tables) → not m ≡ true → controlTo s (u .running) (u .order) (u .processes) (u .structures) ≡ stored m s u
+unfolding stored
+stored-control m s u h = rw (not-true m h)
+
+pub stored-all : (m : Bool) (s : List ℕ) (u : Tables) → not m ≡ false
+    → bytesTo (controlTo s (u .running) (u .order) (u .processes) (u .structures)) (u .rings) (u .parcels) ≡ stored m s u
+unfolding stored
+stored-all m s u h = rw (not-false m h)
 
 module _ (s q p : List ℕ) where
   pub request-wrong : (length q ≡ recordLength → ⊥) → Called s q p 39 s p
@@ -137,10 +150,10 @@ module _ (s q p : List ℕ) where
             (w ∙ written p a pl ∙ ap bytesOf (e ∙ ap (λ k. refusalReply k (t .running)) refuses-here))
 
         -- Done
-        pub is-done : {x : Step} {k : ℕ} {s′ p′ : List ℕ} → code ≡ 0 → x ≡ deedDone (rowOf (r .what) .deed) r t
-            → k ≡ replied x .reply .what → s′ ≡ layout.writtenTo s (replied x .tables) → p′ ≡ writtenTo p (replied x .reply) → Called s q p k s′ p′
-        is-done {x} h steps c v w =
-            done lengths t state-held accepted (c ∙ ap (λ a. a .reply .what) here) (v ∙ state-written (replied x .tables) ∙ ap (λ a. encode (a .tables)) here)
+        pub is-done : {x : Step} {m : Bool} {k : ℕ} {s′ p′ : List ℕ} → code ≡ 0 → x ≡ deedDone (rowOf (r .what) .deed) r t → m ≡ movesBytes (rowOf (r .what) .deed)
+            → k ≡ replied x .reply .what → s′ ≡ stored m s (replied x .tables) → p′ ≡ writtenTo p (replied x .reply) → Typed (replied x .tables) → Called s q p k s′ p′
+        is-done {x} {m} h steps moves c v w fits =
+            done lengths t state-held accepted (c ∙ ap (λ a. a .reply .what) here) (v ∙ all-stored ∙ ap (λ a. encode (a .tables)) here)
             (w ∙ written p (replied x .reply) pl ∙ ap (λ a. bytesOf (a .reply)) here)
           where
             accepted : refusal t (recordOf q) ≡ 0
@@ -149,5 +162,14 @@ module _ (s q p : List ℕ) where
             here : replied x ≡ stepped t (recordOf q)
             here = ap replied (steps ∙ ap (λ a. deedDone (rowOf (a .what) .deed) a t) asked-here) ∙ sym (accepted-step t (recordOf q) accepted)
 
-            state-written : (u : Tables) → layout.writtenTo s u ≡ encode u
-            state-written u = unfold layout.writtenTo in rw (eq-eqb (length s) stateLength (ap length (sym stands) ∙ length-encode t typed))
+            -- What is written are the bytes of the tables
+            all-stored : stored m s (replied x .tables) ≡ encode (replied x .tables)
+            all-stored =
+                unfold stored in
+                elim (test m) [
+                  | holds e ↦ rw (e, ← stands) (all-written t (replied x .tables) typed (fits .order-long) (fits .processes-long) (fits .structures-long))
+                  | fails e ↦
+                      (let keeps = stepped-keeps (rowOf (r .what) .deed) r t (sym moves ∙ e) in
+                      let same = ap replied steps in
+                      rw (e, ← stands) (control-written t (replied x .tables) typed (rw same (keeps .rings)) (rw same (keeps .parcels))))
+                ]

@@ -1,4 +1,5 @@
 // What the board calls: three functions on buffers that it lends.
+use answers::Answer;
 use answers::Outcome;
 use answers::Step;
 use calls::Deed;
@@ -6,9 +7,10 @@ use records::Record;
 ghost use mathlib.Core.Path.{_≡_};
 ghost use Rattle.layout.specs.Layout.{stateLength};
 ghost use Rattle.records.specs.Records.{reply, writtenTo};
-ghost use Rattle.layout.specs.Layout as layout;
+ghost use Rattle.answers.specs.Answers.{outcomeNumber};
+ghost use Rattle.layout.specs.Typed.{Typed};
 ghost use Rattle.steps.specs.Steps.{replied};
-ghost use Rattle.kernel.specs.Called.{Called, freshCode, freshState, refusalReply};
+ghost use Rattle.kernel.specs.Called.{Called, freshCode, freshState, refusalReply, stored};
 
 // How many bytes a state has.
 #[no_mangle]
@@ -48,25 +50,42 @@ fn refusal_reply(code: u8, running: u8) -> Record
     }
 }
 
-// The end of an accepted call: whoever is due runs, and reply and state are written.
-fn finished(state: &mut [u8], answer: &mut [u8], step: Step) -> u32
-    ensures { λ r. ⌜ (r ≡ replied step .reply .what) × (now (state .exit) ≡ layout.writtenTo (now (state .entry)) (replied step .tables)) × (now (answer .exit) ≡ writtenTo (now (answer .entry)) (replied step .reply)) ⌝ }
+// An accepted call's reply: what the step answered, and who runs now.
+fn reply_of(said: Answer, running: u8) -> Record
+    ensures { λ r. ⌜ r ≡ reply (outcomeNumber (said .outcome)) running (said .n) (said .l) (said .m) (said .bytes) ⌝ }
 {
-    let done = step.tables;
-    let next = ready::dispatched(done);
-    let said = step.answer;
     let outcome = said.outcome;
     let bytes = said.bytes;
-    let reply = Record {
+    Record {
         what: answers::outcome_number(outcome),
-        who: next.running,
+        who: running,
         n: said.n,
         l: said.l,
         m: said.m,
         bytes,
-    };
+    }
+}
+
+// The end of an accepted call: whoever is due runs, and the reply and the state are written. What rings and parcels hold is
+// written only where the deed moves bytes.
+fn finished(state: &mut [u8], answer: &mut [u8], step: Step, moves: bool) -> u32
+    ensures { λ r. ⌜ (r ≡ replied step .reply .what) × (now (state .exit) ≡ stored moves (now (state .entry)) (replied step .tables)) × (now (answer .exit) ≡ writtenTo (now (answer .entry)) (replied step .reply)) × Typed (replied step .tables) ⌝ }
+{
+    let done = step.tables;
+    let next = ready::dispatched(done);
+    let said = step.answer;
+    let reply = reply_of(said, next.running);
     records::write(answer, reply);
-    layout::write(state, next);
+    let order = next.order;
+    let processes = next.processes;
+    let structures = next.structures;
+    layout::write_control(&mut *state, next.running, order, processes, structures);
+    if !moves {
+        return reply.what as u32;
+    }
+    let rings = next.rings;
+    let parcels = next.parcels;
+    layout::write_bytes(&mut *state, rings, parcels);
     reply.what as u32
 }
 
@@ -127,5 +146,5 @@ pub extern "C" fn brombeertor_call(state: &mut [u8], request: &[u8], answer: &mu
         Deed::ResetRing => rings::reset_ring(t, n),
         Deed::Collect => rings::collected(t),
     };
-    finished(state, answer, step)
+    finished(state, answer, step, calls::moves_bytes(deed))
 }

@@ -1,2 +1,3 @@
--- The kernel's step.
+-- The kernel's step, and which steps leave all bytes as they were.
 pub mod Steps
+pub mod Bytes
