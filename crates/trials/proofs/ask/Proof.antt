@@ -5,27 +5,39 @@ use Rattle.listing.specs.Laws.{lined-within}
 use borrow.Author.Needs.{needs}
 use Rattle.trials.proofs.ask.Statement.{statement}
 use Rattle.trials.proofs.ask.Tie as tie
-use Rattle.trials.proofs.ask.Reads as reads
-use Rattle.trials.proofs.ask.Lts as lts
-use Rattle.io.proofs.write_all.Reads as write-all-reads
-use Rattle.listing.proofs.line_of.Reads as line-of-reads
-use Rattle.steps.proofs.stepped.Reads as stepped-reads
-use Rattle.trials.proofs.data_of.Reads as data-of-reads
 
 data-of-requires : tie.Need-data-of-requires
 data-of-requires c κs = search needs
 
-stepped-requires : tie.Need-stepped-requires
-stepped-requires c κs = search needs
+slice-aggregate-write : tie.Need-slice-aggregate-write
+slice-aggregate-write c = search needs
 
-line-of-requires : tie.Need-line-of-requires
-line-of-requires c κs = search needs
+write-requires : tie.Need-write-requires
+write-requires c κs = search needs
+
+slice-aggregate-brombeertor-call : tie.Need-slice-aggregate-brombeertor-call
+slice-aggregate-brombeertor-call c = search needs
+
+slice-aggregate-brombeertor-call-2 : tie.Need-slice-aggregate-brombeertor-call-2
+slice-aggregate-brombeertor-call-2 c = search needs
+
+slice-aggregate-brombeertor-call-3 : tie.Need-slice-aggregate-brombeertor-call-3
+slice-aggregate-brombeertor-call-3 c = search needs
+
+brombeertor-call-requires : tie.Need-brombeertor-call-requires
+brombeertor-call-requires c κs = search needs
+
+slice-aggregate-line-for : tie.Need-slice-aggregate-line-for
+slice-aggregate-line-for c = search needs
+
+line-for-requires : tie.Need-line-for-requires
+line-for-requires c κs = search needs
 
 array-share-prefix-text : tie.Need-array-share-prefix-text
-array-share-prefix-text c = lined-within _ (c .before .line-of .ensures)
+array-share-prefix-text c = lined-within _ (c .before .line-for .ensures)
 
 slice-aggregate-write-all : tie.Need-slice-aggregate-write-all
-slice-aggregate-write-all c = sym (length-take-le _ _ (lined-within _ (c .before .before .line-of .ensures)))
+slice-aggregate-write-all c = sym (length-take-le _ _ (lined-within _ (c .before .before .line-for .ensures)))
 
 write-all-requires : tie.Need-write-all-requires
 write-all-requires c κs = search needs
@@ -38,8 +50,14 @@ ask-spec =
     tie.close
     (tie.spec
     data-of-requires
-    stepped-requires
-    line-of-requires
+    slice-aggregate-write
+    write-requires
+    slice-aggregate-brombeertor-call
+    slice-aggregate-brombeertor-call-2
+    slice-aggregate-brombeertor-call-3
+    brombeertor-call-requires
+    slice-aggregate-line-for
+    line-for-requires
     array-share-prefix-text
     slice-aggregate-write-all
     write-all-requires
