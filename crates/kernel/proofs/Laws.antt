@@ -78,15 +78,14 @@ read-at : (q : List ℕ) → length q ≡ recordLength → recordAt q ≡ record
 unfolding recordAt
 read-at q h = rw (eq-eqb (length q) recordLength h)
 
--- The reply of an accepted call, from who is due and what the step answered
-pub reply-said : (x : Step) {u : Tables} {a : Record} → u ≡ dispatched (x .tables)
-    → a ≡ reply (outcomeNumber (x .answer .outcome)) (u .running) (x .answer .n) (x .answer .l) (x .answer .m) (x .answer .bytes) → a ≡ replied x .reply
+-- The end of an accepted call, from who is due, what the step answered and what was written
+pub ended : (x : Step) (m : Bool) (s p : List ℕ) {u : Tables} {a : Record} {s′ p′ : List ℕ} → u ≡ dispatched (x .tables)
+    → a ≡ reply (outcomeNumber (x .answer .outcome)) (u .running) (x .answer .n) (x .answer .l) (x .answer .m) (x .answer .bytes) → s′ ≡ stored m s u
+    → p′ ≡ writtenTo p a → Typed u → (a .what ≡ replied x .reply .what) × (s′ ≡ stored m s (replied x .tables)) × (p′ ≡ writtenTo p (replied x .reply)) × Typed (replied x .tables)
 unfolding replied repliedBy
-reply-said x e h = h ∙ rw e
-
-pub tables-due : (x : Step) {u : Tables} → u ≡ dispatched (x .tables) → u ≡ replied x .tables
-unfolding replied repliedBy
-tables-due x e = e
+ended x m s p e h v w typed =
+    let said : _ ≡ replied x .reply = h ∙ rw e in
+    (ap (λ y. y .what) said, v ∙ ap (stored m s) e, w ∙ ap (writtenTo p) said, rw (← e) typed)
 
 -- The control part alone, and both parts
 pub stored-control : (m : Bool) (s : List ℕ) (u : Tables) → not m ≡ true → controlTo s (u .running) (u .order) (u .processes) (u .structures) ≡ stored m s u

@@ -1,9 +1,9 @@
 -- `kernel::brombeertor_call` meets its contract: each return is the definition at the tests on the way.
 use native.Mathlib.Omega.{arith}
-use mathlib.Core.Path.{_≡_}
+use mathlib.Core.Path.{_≡_, ap, _∙_}
 use mathlib.Core.Logic.{⊎-elim}
 use Rattle.steps.specs.Steps.{done}
-use Rattle.calls.specs.Calls.{rowOf}
+use Rattle.calls.specs.Calls.{rowOf, movesBytes}
 use Rattle.kernel.proofs.Laws.{request-wrong, answer-wrong, no-state, no-sound, is-refused, is-done, deed-done}
 use borrow.Author.Needs.{needs}
 use Rattle.kernel.proofs.brombeertor_call.Statement.{statement}
@@ -267,6 +267,9 @@ enum-told-24 c = search needs
 collected-requires : tie.Need-collected-requires
 collected-requires c κs = search needs
 
+moves-bytes-requires : tie.Need-moves-bytes-requires
+moves-bytes-requires c κs = search needs
+
 finished-requires : tie.Need-finished-requires
 finished-requires c κs = search needs
 
@@ -278,12 +281,13 @@ same-length-8 c = search needs
 
 returns-6 : tie.Need-returns-6
 returns-6 c =
-    is-done (c .before .before .before .before .before .before .before .before .before .before .before .before .before .before .before .before .before .before .before .before .before .before .before .before .before .args .state .now) (c .before .before .before .before .before .before .before .before .before .before .before .before .before .before .before .before .before .before .before .before .before .before .before .before .before .args .request .now) (c .before .before .before .before .before .before .before .before .before .before .before .before .before .before .before .before .before .before .before .before .before .before .before .before .before .args .answer .now) (c .before .before .before .before .before .before .before .before .before .before .before .before .before .before .before .before .before .before .before .before .before .if1 .left) (c .before .before .before .before .before .before .before .before .before .before .before .before .before .before .before .before .before .before .before .before .if2 .left)
-    (λ i. omega (arith, c .before .before .before .before .before .before .before .before .before .before .before .before .before .before .before .before .before .before .before .before .before .before .before .before .slice-known .given i))
-    (c .before .before .before .before .before .before .before .before .before .before .before .before .before .before .before .before .before .before .is-state .ensures) (c .before .before .before .before .before .before .before .before .before .before .before .before .before .before .before .before .before .if3 .left) (c .before .before .before .before .before .before .before .before .before .before .before .before .before .before .before .read .ensures) (c .before .before .before .before .before .before .before .before .before .before .before .before .before .before .sound .ensures)
-    (c .before .before .before .before .before .before .before .before .before .before .before .before .before .if4 .left) (c .before .before .before .before .before .before .before .before .before .before .before .before .read2 .ensures) (c .before .before .before .before .before .before .before .before .before .before .before .refusal .ensures)
-    (c .before .before .before .before .before .before .before .before .before .before .if5 .left) (step-is (c .before .before .before .before .before .before .before))
-    (c .before .before .before .before .finished .ensures .0) (c .before .before .before .before .finished .ensures .1) (c .before .before .before .before .finished .ensures .2)
+    is-done (c .before .before .before .before .before .before .before .before .before .before .before .before .before .before .before .before .before .before .before .before .before .before .before .before .before .before .args .state .now) (c .before .before .before .before .before .before .before .before .before .before .before .before .before .before .before .before .before .before .before .before .before .before .before .before .before .before .args .request .now) (c .before .before .before .before .before .before .before .before .before .before .before .before .before .before .before .before .before .before .before .before .before .before .before .before .before .before .args .answer .now) (c .before .before .before .before .before .before .before .before .before .before .before .before .before .before .before .before .before .before .before .before .before .before .if1 .left) (c .before .before .before .before .before .before .before .before .before .before .before .before .before .before .before .before .before .before .before .before .before .if2 .left)
+    (λ i. omega (arith, c .before .before .before .before .before .before .before .before .before .before .before .before .before .before .before .before .before .before .before .before .before .before .before .before .before .slice-known .given i))
+    (c .before .before .before .before .before .before .before .before .before .before .before .before .before .before .before .before .before .before .before .is-state .ensures) (c .before .before .before .before .before .before .before .before .before .before .before .before .before .before .before .before .before .before .if3 .left) (c .before .before .before .before .before .before .before .before .before .before .before .before .before .before .before .before .read .ensures) (c .before .before .before .before .before .before .before .before .before .before .before .before .before .before .before .sound .ensures)
+    (c .before .before .before .before .before .before .before .before .before .before .before .before .before .before .if4 .left) (c .before .before .before .before .before .before .before .before .before .before .before .before .before .read2 .ensures) (c .before .before .before .before .before .before .before .before .before .before .before .before .refusal .ensures)
+    (c .before .before .before .before .before .before .before .before .before .before .before .if5 .left) (step-is (c .before .before .before .before .before .before .before .before))
+    (c .before .before .before .before .before .moves-bytes .ensures ∙ ap (λ x. movesBytes (x .deed)) (c .before .before .before .before .before .before .before .before .before .before .row-of .ensures))
+    (c .before .before .before .before .finished .ensures .0) (c .before .before .before .before .finished .ensures .1) (c .before .before .before .before .finished .ensures .2) (c .before .before .before .before .finished .ensures .3)
 
 pub brombeertor-call-spec : {M : Type 1} → statement M
 brombeertor-call-spec =
@@ -361,6 +365,7 @@ brombeertor-call-spec =
     reset-ring-requires
     enum-told-24
     collected-requires
+    moves-bytes-requires
     finished-requires
     same-length-7
     same-length-8
