@@ -30,9 +30,12 @@ abbrev pub lowestFree : ℕ → List Process → ℕ
 lowestFree n [] = 0
 lowestFree n (q ∷ l) = cond (isFree q) n (lowestFree (suc n) l)
 
--- The lowest free number of processes
+-- The lowest free number of these processes, and of the tables'
+abbrev pub freeIn : List Process → ℕ
+freeIn processes = lowestFree 1 processes
+
 unfoldable pub freeProcess : Tables → ℕ
-freeProcess t = lowestFree 1 (t .processes)
+freeProcess t = freeIn (t .processes)
 
 -- A new process: not suspended, ready
 abbrev pub newcomer : ℕ → Process

@@ -18,7 +18,7 @@ ghost use Rattle.answers.specs.declared.Outcome.the-variants.{Done};
 ghost use Rattle.ready.specs.Ready.{joins};
 ghost use Rattle.processes.specs.Processes.{
   isFree,
-  freeProcess,
+  freeIn,
   newcomer,
   created,
   gone,
@@ -56,10 +56,9 @@ fn is_free(process: Process) -> bool
 }
 
 // The lowest free number, or 0.
-pub fn free_process(t: Tables) -> u8
-    ensures { λ r. ⌜ r ≡ freeProcess t ⌝ }
+pub fn free_process(processes: [Process; 32]) -> u8
+    ensures { λ r. ⌜ r ≡ freeIn processes ⌝ }
 {
-    let processes = t.processes;
     let mut i = 0;
     while i < 32 {
         let process = processes[i];
@@ -86,7 +85,8 @@ fn newcomer(priority: u8) -> Process
 pub fn created(t: Tables, priority: u8) -> Step
     ensures { λ r. ⌜ r ≡ created priority t ⌝ }
 {
-    let p = free_process(t);
+    let processes = t.processes;
+    let p = free_process(processes);
     if p == 0 {
         return answers::plainly(t, Outcome::No);
     }

@@ -350,7 +350,10 @@ fn late(t: Tables, r: Record, deed: Deed, process: Process, kind: Kind) -> u8
     match deed {
         Deed::Unknown => 0,
         Deed::Tick => 0,
-        Deed::CreateProcess => code_if(processes::free_process(t) == 0, 52),
+        Deed::CreateProcess => {
+            let processes = t.processes;
+            code_if(processes::free_process(processes) == 0, 52)
+        }
         Deed::DeleteMyself => 0,
         Deed::Suspend => code_if(process.suspended, 47),
         Deed::Resume => code_if(!process.suspended, 47),

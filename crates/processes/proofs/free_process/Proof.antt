@@ -6,7 +6,7 @@ use mathlib.Core.Path.{_≡_, refl}
 use borrow.Author.Needs.{needs}
 use native.Mathlib.Omega.{arith}
 use Rattle.basics.specs.Lists.{len-map}
-use Rattle.processes.specs.Processes.{lowestFree, freeProcess}
+use Rattle.processes.specs.Processes.{lowestFree}
 use Rattle.processes.proofs.Laws.{free-turn}
 use Rattle.processes.proofs.free_process.Statement.{statement}
 use Rattle.processes.proofs.free_process.Tie as tie
@@ -19,15 +19,14 @@ abbrev μ-loop : tie.MeasureT-loop
 
 -- What is left to look at, by the answer of `is_free`
 found : (c : tie.After-is-free Inv-loop μ-loop) →
-    let l = c .before .before .before .before .before .args .t .processes in
+    let l = c .before .before .before .before .args .t1 in
     let i = c .before .before .before .loop .i in
     lowestFree (i + 1) (drop i l) ≡ cond (c .is-free .result) (i + 1) (lowestFree (i + 1 + 1) (drop (i + 1) l))
 found c =
-    let long : length (c .before .before .before .before .before .args .t .processes) ≡ 32 = search (len-map, needs) in
-    free-turn (c .before .before .before .before .before .args .t .processes) (c .before .before .before .loop .i) _ _ (omega arith) (c .is-free .ensures)
+    let long : length (c .before .before .before .before .args .t1) ≡ 32 = search (len-map, needs) in
+    free-turn (c .before .before .before .before .args .t1) (c .before .before .before .loop .i) _ _ (omega arith) (c .is-free .ensures)
 
 loop-holds : tie.Need-loop-holds Inv-loop μ-loop
-unfolding freeProcess
 loop-holds c = (search needs, refl)
 
 mul-process : tie.Need-mul-process Inv-loop μ-loop
@@ -46,7 +45,6 @@ cast-result : tie.Need-cast-result Inv-loop μ-loop
 cast-result c = search needs
 
 returns : tie.Need-returns Inv-loop μ-loop
-unfolding freeProcess
 returns c =
     rw (found (c .before), c .if1 .taken) at (c .before .before .before .before .loop .inv .1)
 
@@ -61,10 +59,9 @@ loop-again c =
     (search needs, rw (found (c .before), c .if1 .left) at (c .before .before .before .before .loop .inv .1))
 
 returns-2 : tie.Need-returns-2 Inv-loop μ-loop
-unfolding freeProcess
 returns-2 c =
-    let long : length (c .before .before .before .args .t .processes) ≡ 32 = search (len-map, needs) in
-    rw (drop-of-length-le (c .before .before .before .args .t .processes) {i = c .before .loop .i} (omega arith)) at (c .before .loop .inv .1)
+    let long : length (c .before .before .args .t1) ≡ 32 = search (len-map, needs) in
+    rw (drop-of-length-le (c .before .before .args .t1) {i = c .before .loop .i} (omega arith)) at (c .before .loop .inv .1)
 
 pub free-process-spec : {M : Type 1} → statement M
 free-process-spec =

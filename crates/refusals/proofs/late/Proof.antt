@@ -1,4 +1,5 @@
 -- `refusals::late` meets its contract: each return is the definition at the tests on the way.
+use Rattle.processes.specs.Processes.{freeProcess}
 use Rattle.refusals.specs.Refusals.{appliesTo, wrongSuspension, uncollected, tooLong, signalsFull, deletesInUse, processesFull, structuresFull, refusedTransfer, refusedCreation}
 use borrow.Author.Needs.{needs}
 use Rattle.refusals.proofs.late.Statement.{statement}
@@ -124,8 +125,8 @@ unfolding appliesTo wrongSuspension uncollected tooLong signalsFull deletesInUse
 returns-2 c = simp (c .enum-told2 .given .1, ← c .before .before .pre .1, ← c .before .before .pre .0)
 
 returns-3 : tie.Need-returns-3
-unfolding appliesTo wrongSuspension uncollected tooLong signalsFull deletesInUse processesFull structuresFull refusedTransfer refusedCreation
-returns-3 c = simp (c .before .before .enum-told3 .given .1, ← c .code-if .ensures, ← c .before .free-process .ensures, ← c .before .before .before .before .pre .1, ← c .before .before .before .before .pre .0)
+unfolding freeProcess appliesTo wrongSuspension uncollected tooLong signalsFull deletesInUse processesFull structuresFull refusedTransfer refusedCreation
+returns-3 c = simp (c .before .before .before .enum-told3 .given .1, ← c .code-if .ensures, ← c .before .free-process .ensures, ← c .before .before .before .before .before .pre .1, ← c .before .before .before .before .before .pre .0)
 
 returns-4 : tie.Need-returns-4
 unfolding appliesTo wrongSuspension uncollected tooLong signalsFull deletesInUse processesFull structuresFull refusedTransfer refusedCreation
