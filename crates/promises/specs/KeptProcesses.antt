@@ -28,11 +28,12 @@ use Rattle.tables.specs.Access.{numbered, replaced, nobody, processOf, withProc
 use Rattle.tables.specs.Lines.{line, stands, standing, readyLine}
 use Rattle.tables.specs.Laws.{numbered-past, numbered-at, length-replaced, replaced-same, replaced-other, replaced-at}
 use Rattle.ready.specs.Ready.{placed, withPlace, joins, runnerJoins, runs}
+use Rattle.ready.specs.Laws.{head-ready}
 use Rattle.processes.specs.Processes.{isFree, lowestFree, freeProcess, newcomer, createdAs, created, gone, deletedMyself, marked, parked, suspendedFrom, suspendedOf, suspended, resumedFrom, resumedOf, resumed, withPriority, prioritisedFrom, prioritisedOf, prioritised, readyHas, headRuns, scheduled, statedOf, stated, slept}
 use Rattle.sound.specs.Sound.{placeAt, parcelAt, listings, PlaceFits, Fits, Settled}
 use Rattle.sound.specs.Sound as sound
 use Rattle.promises.specs.Changes.{listings-most, place-zero, nowhere-runs, Apart, OnlyProcess, Own, settled-only, still-only, Steady, changedTo, SameRunner, runner-same, runner-left, Live, is-live, steady-changed}
-use Rattle.promises.specs.KeptReady.{left-steady, moved-steady, apart-running, apart-ready, runner-place, fits-as, runner-joins-steady, preempted-steady, runs-steady, head-ready, head-top, urgency-zero, urgency-some, none-runs, movable, is-movable}
+use Rattle.promises.specs.KeptReady.{left-steady, moved-steady, apart-running, apart-ready, runner-place, fits-as, runner-joins-steady, preempted-steady, runs-steady, head-top, urgency-zero, urgency-some, none-runs, movable, is-movable}
 
 -- ---- one entry anew, and a move
 

@@ -1,7 +1,7 @@
 -- The ready line's steps keep tables steady, and dispatched makes them sound.
 use Prim.Native.Nat.{ℕ, suc, _≤_}
 use mathlib.Core.Path.{_≡_, refl, sym, ap, subst, _∙_}
-use mathlib.Core.Bool.{Bool, true, false, cond, true≢false}
+use mathlib.Core.Bool.{Bool, true, false, true≢false}
 use mathlib.Core.List.{List, [], _∷_}
 use mathlib.Core.Logic.{_⊎_, inl, inr, ⊎-elim}
 use native.Mathlib.Omega.{arith}
@@ -10,7 +10,7 @@ use borrow.Author.Tests.{eq-eqb, ne-eqb, eqb-true, eqb-false, leb-true, leb-fals
 use Rattle.basics.specs.Tests.{test, holds, fails}
 use Rattle.arrivals.specs.Order.{has, first, keep}
 use Rattle.arrivals.specs.Listed.{is-listed}
-use Rattle.arrivals.specs.Views.{has-keep, in-line}
+use Rattle.arrivals.specs.Views.{has-keep}
 use Rattle.tables.specs.declared.Tables.{Tables}
 use Rattle.tables.specs.declared.Process.{Process}
 use Rattle.tables.specs.declared.Place.{Place}
@@ -23,7 +23,7 @@ use Rattle.tables.specs.Access.{numbered, nobody, processOf, withProcess}
 use Rattle.tables.specs.Lines.{line, stands, standing, urgency, behindEquals, byUrgency, readyLine}
 use Rattle.tables.specs.Laws.{replaced-same, replaced-other}
 use Rattle.ready.specs.Ready.{placed, withPlace, joins, runnerJoins, releasedTo, released, releasedAll, runs, dispatchedTo, dispatched}
-use Rattle.ready.specs.Laws.{dispatched-only}
+use Rattle.ready.specs.Laws.{has-inserted, has-all, head-ready, dispatched-only}
 use Rattle.sound.specs.Sound.{placeAt, kindAt, ringAt, parcelAt, bayOf, PlaceFits, Fits, Settled, Urgent, Sound}
 use Rattle.sound.specs.Decided.{Typed}
 use Rattle.promises.specs.Changes.{Apart, Steady, changedTo, runner-same, runner-left, runner-new, Live, is-live, steady-changed}
@@ -31,27 +31,6 @@ use Rattle.promises.specs.Changes.{Apart, Steady, changedTo, runner-same
 -- ---- the head of the ready line is the most urgent
 
 module _ (f : ℕ → ℕ) where
-  -- A newcomer stands in the line with the others
-  has-inserted : (x z : ℕ) (l : List ℕ) → has z (behindEquals f x l) ≡ cond (eqb x z) true (has z l)
-  has-inserted x z [] = refl
-  has-inserted x z (y ∷ l) =
-      elim (test (ltb (f y) (f x))) [
-        | holds e ↦ rw e
-        | fails e ↦ rw (e, has-inserted x z l) (elim (test (eqb x z)) [
-          | holds a ↦ elim (test (eqb y z)) [ holds b ↦ rw (a, b) | fails b ↦ rw (a, b) ]
-          | fails a ↦ elim (test (eqb y z)) [ holds b ↦ rw (a, b) | fails b ↦ rw (a, b) ]
-        ])
-      ]
-
-  -- Those of both lists stand in it
-  has-all : (z : ℕ) (s l : List ℕ) → has z (byUrgency f s l) ≡ cond (has z s) true (has z l)
-  has-all z s [] = elim (test (has z s)) [ holds e ↦ rw e | fails e ↦ rw e ]
-  has-all z s (x ∷ l) =
-      has-all z (behindEquals f x s) l ∙ rw (has-inserted x z s) (elim (test (eqb x z)) [
-        | holds a ↦ elim (test (has z s)) [ holds b ↦ rw (a, b) | fails b ↦ rw (a, b) ]
-        | fails a ↦ elim (test (has z s)) [ holds b ↦ rw (a, b) | fails b ↦ rw (a, b) ]
-      ])
-
   -- Nobody in the line is more urgent than its head
   abbrev Top : List ℕ → Type 0
   Top l = (z : ℕ) → has z l ≡ true → f z ≤ f (first l)
@@ -68,7 +47,7 @@ module _ (f : ℕ → ℕ) where
         ])
         | fails e ↦ rw e (elim (test (eqb x z)) [
           | holds a ↦ rw (← eqb-true x z a) (ltb-false (f y) (f x) e)
-          | fails a ↦ top z (rw (e, has-inserted x z l, a) at h)
+          | fails a ↦ top z (rw (e, has-inserted f x z l, a) at h)
         ])
       ]
 
@@ -77,41 +56,12 @@ module _ (f : ℕ → ℕ) where
   top-all s [] top = top
   top-all s (x ∷ l) top = top-all (behindEquals f x s) l (top-inserted x s top)
 
--- A list is empty, or has its head
-pub first-has : (l : List ℕ) → (first l ≡ 0) ⊎ (has (first l) l ≡ true)
-first-has [] = inl refl
-first-has (x ∷ l) = inr (rw (eq-eqb x x refl))
-
--- Who stands in the ready line is ready, and who is ready stands there
-stands-ready : (q : Place) → stands lines.Ready q ≡ true → q ≡ Ready
-unfolding stands
-stands-ready Nowhere e = absurd (true≢false (sym e))
-stands-ready Running e = absurd (true≢false (sym e))
-stands-ready Ready e = refl
-stands-ready Parked e = absurd (true≢false (sym e))
-stands-ready (Waiting n) e = absurd (true≢false (sym e))
-stands-ready (Getting n l) e = absurd (true≢false (sym e))
-stands-ready (Putting n l) e = absurd (true≢false (sym e))
-stands-ready (Asleep k) e = absurd (true≢false (sym e))
-
+-- Who is ready stands in the ready line
 ready-stands : stands lines.Ready Ready ≡ true
 unfolding stands
 ready-stands = refl
 
--- Who stands in the ready line is listed and ready
-in-ready : (z : ℕ) (t : Tables) → has z (readyLine t) ≡ has z (line lines.Ready t)
-unfolding readyLine
-in-ready z t = has-all (urgency (t .processes)) z [] (line lines.Ready t)
-
--- Its head, if there is one, is ready ..
-pub head-ready : (t : Tables) → (first (readyLine t) ≡ 0 → ⊥) → placeAt (t .processes) (first (readyLine t)) ≡ Ready
-unfolding line
-head-ready t z =
-    ⊎-elim (λ e. absurd (z e))
-    (λ h. stands-ready _ (in-line (standing lines.Ready (t .processes)) (first (readyLine t)) (t .order) (sym (in-ready (first (readyLine t)) t) ∙ h) .0))
-    (first-has (readyLine t))
-
--- .. and nobody who is ready is more urgent
+-- Nobody who is ready is more urgent than the head of the ready line
 pub head-top : (t : Tables) → Settled t → (p : ℕ) → placeAt (t .processes) p ≡ Ready → urgency (t .processes) p ≤ urgency (t .processes) (first (readyLine t))
 unfolding line readyLine
 head-top t s p e =

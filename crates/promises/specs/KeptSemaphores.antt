@@ -22,12 +22,13 @@ use Rattle.tables.specs.Numbers.{spot, isRing, isSemaphore}
 use Rattle.tables.specs.Access.{numbered, nobody, structureOf, withStructure}
 use Rattle.tables.specs.Lines.{line, stands, standing, waitsAt}
 use Rattle.ready.specs.Ready.{letThrough}
+use Rattle.ready.specs.Laws.{first-has}
 use Rattle.structures.specs.Structures.{isFree}
 use Rattle.semaphores.specs.Semaphores.{kindOf, withKind, value, lowered, raised, hasLine, waitedAt, waited, conditionallyWaited, signalledAt, signalled, conditionallySignalled, allReleased, allSignalled}
 use Rattle.semaphores.specs.Laws.{no-line}
 use Rattle.sound.specs.Sound.{placeAt, kindAt, ringAt, parcelAt, bayOf, AtZero, PlaceFits, ValueFits, Settled}
 use Rattle.promises.specs.Changes.{known-structure, Steady, Live, is-live, Unwaited, steady-plain}
-use Rattle.promises.specs.KeptReady.{fits-as, movable, runner-joins-steady, released-steady, released-all-steady, first-has}
+use Rattle.promises.specs.KeptReady.{fits-as, movable, runner-joins-steady, released-steady, released-all-steady}
 
 -- ---- who waits at a structure
 

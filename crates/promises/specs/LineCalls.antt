@@ -25,6 +25,7 @@ use Rattle.tables.specs.Numbers.{isSemaphore}
 use Rattle.tables.specs.Access.{structureOf, ringIn, parcelFor, processOf, withProcess, withStructure, withRing, withParcel}
 use Rattle.tables.specs.Lines.{line, standing}
 use Rattle.ready.specs.Ready.{withPlace, joins, released, letThrough}
+use Rattle.ready.specs.Laws.{first-has}
 use Rattle.records.specs.declared.Record.{Record}
 use Rattle.calls.specs.declared.Deed.{Deed}
 use Rattle.calls.specs.declared.Deed.the-variants as deeds
@@ -40,7 +41,6 @@ use Rattle.rings.specs.Serving.{lengthFor, who, inTurn, entered, withMoved, ser
 use Rattle.rings.specs.Rings.{putThrough, putWaits, putBy, putIn, conditionallyPutBy, conditionallyPut, gotFrom, gotThrough, getWaits, gotBy, got, conditionallyGotBy, conditionallyGot, resetIn, resetKind, resetRing, collectedBytes, collectedFrom, collected}
 use Rattle.sound.specs.Sound.{placeAt, kindAt, Settled}
 use Rattle.promises.specs.Changes.{Steady}
-use Rattle.promises.specs.KeptReady.{first-has}
 use Rattle.promises.specs.KeptSemaphores.{waiting}
 use Rattle.promises.specs.KeptRingsCalls.{way-in, way-out}
 use Rattle.promises.specs.LineSame.{Part, SamePart, Off, part-none, part-then, part-beside, off-at, off-zero, off-runner, released-same, all-same, runner-joins-same, created-same, deleted-same, suspended-same, resumed-same, prioritised-same, scheduled-same, stated-same, slept-same, ticked-same}

@@ -19,10 +19,11 @@ use Rattle.tables.specs.Lines.{line, stands, standing, readyLine}
 use Rattle.tables.specs.Laws.{replaced-unseen}
 use Rattle.tables.specs.Numbers.{code}
 use Rattle.ready.specs.Ready.{placed, withPlace, joins, runnerJoins, releasedTo, released, releasedAll, runs, dispatchedTo, dispatched}
+use Rattle.ready.specs.Laws.{head-ready}
 use Rattle.processes.specs.Processes.{isFree, freeProcess, newcomer, createdAs, created, gone, deletedMyself, marked, parked, suspendedFrom, suspendedOf, suspended, resumedFrom, resumedOf, resumed, withPriority, prioritisedFrom, prioritisedOf, prioritised, readyHas, headRuns, scheduled, statedOf, stated, slept, fallen, later, allLater, isDue, dueOf, due, dueReleased, ticked}
 use Rattle.sound.specs.Sound.{placeAt, Settled}
 use Rattle.promises.specs.Changes.{place-zero, changedTo, Steady}
-use Rattle.promises.specs.KeptReady.{head-ready, runner-place}
+use Rattle.promises.specs.KeptReady.{runner-place}
 use Rattle.promises.specs.KeptProcesses.{Unused, free-unused, began-lines, ended-lines}
 use Rattle.promises.specs.KeptTick.{mapped-at}
 

@@ -1,24 +1,26 @@
 -- What joining a line, a release and a dispatch do to the lines and the tables.
-use Prim.Native.Nat.{ℕ, _≤_}
+use Prim.Native.Nat.{ℕ, _≤_, _<_}
 use mathlib.Core.Path.{_≡_, refl, sym, ap, _∙_}
-use mathlib.Core.Bool.{Bool, true, false, cond}
+use mathlib.Core.Bool.{Bool, true, false, cond, true≢false}
 use mathlib.Core.List.{List, [], _∷_, _++_}
+use mathlib.Core.Logic.{_⊎_, inl, inr, ⊎-elim}
 use native.Mathlib.Omega.{arith}
-use lib.Dec.{eqb, leb}
+use lib.Dec.{eqb, leb, ltb}
 use lib.ListN.{length}
-use borrow.Author.Tests.{ne-eqb, eqb-true, eqb-false}
+use borrow.Author.Tests.{eq-eqb, ne-eqb, leb-true, leb-false}
 use Rattle.basics.specs.Tests.{test, holds, fails}
-use Rattle.arrivals.specs.Order.{count, first, without, movedLast}
+use Rattle.arrivals.specs.Order.{count, has, first, without}
 use Rattle.arrivals.specs.Listed.{count-moved}
-use Rattle.arrivals.specs.Views.{enters, leaves-moved, stays-moved}
+use Rattle.arrivals.specs.Views.{in-line, enters, leaves-moved, stays-moved}
 use Rattle.tables.specs.declared.Tables.{Tables}
 use Rattle.tables.specs.declared.Place.{Place}
-use Rattle.tables.specs.declared.Place.the-variants.{Running, Ready}
+use Rattle.tables.specs.declared.Place.the-variants.{Nowhere, Running, Ready, Parked, Waiting, Getting, Putting, Asleep}
 use Rattle.tables.specs.declared.Line.{Line}
 use Rattle.tables.specs.declared.Line.the-variants as lines
-use Rattle.tables.specs.Access.{processOf, withProcess, withRunning, replaced, nobody}
-use Rattle.tables.specs.Lines.{line, stands, standing, readyLine}
-use Rattle.tables.specs.Laws.{replaced-same, replaced-other, replaced-unseen}
+use Rattle.tables.specs.Numbers.{code}
+use Rattle.tables.specs.Access.{numbered, processOf, withProcess, withRunning, replaced, nobody}
+use Rattle.tables.specs.Lines.{line, stands, standing, urgency, behindEquals, byUrgency, readyLine}
+use Rattle.tables.specs.Laws.{numbered-past, replaced-same, replaced-other, replaced-unseen}
 use Rattle.ready.specs.Ready.{placed, withPlace, joins, runnerJoins, releasedTo, released, runs, dispatched, dispatchedTo}
 
 -- Process p joins a line of those in this place; p is live and listed once
@@ -69,6 +71,72 @@ unfolding stands
 released-stands true = refl
 released-stands false = refl
 
+-- ---- the head of the ready line
+
+module _ (f : ℕ → ℕ) where
+  -- A newcomer stands in the line with the others
+  pub has-inserted : (x z : ℕ) (l : List ℕ) → has z (behindEquals f x l) ≡ cond (eqb x z) true (has z l)
+  has-inserted x z [] = refl
+  has-inserted x z (y ∷ l) =
+      elim (test (ltb (f y) (f x))) [
+        | holds e ↦ rw e
+        | fails e ↦ rw (e, has-inserted x z l) (elim (test (eqb x z)) [
+          | holds a ↦ elim (test (eqb y z)) [ holds b ↦ rw (a, b) | fails b ↦ rw (a, b) ]
+          | fails a ↦ elim (test (eqb y z)) [ holds b ↦ rw (a, b) | fails b ↦ rw (a, b) ]
+        ])
+      ]
+
+  -- Those of both lists stand in it
+  pub has-all : (z : ℕ) (s l : List ℕ) → has z (byUrgency f s l) ≡ cond (has z s) true (has z l)
+  has-all z s [] = elim (test (has z s)) [ holds e ↦ rw e | fails e ↦ rw e ]
+  has-all z s (x ∷ l) =
+      has-all z (behindEquals f x s) l ∙ rw (has-inserted x z s) (elim (test (eqb x z)) [
+        | holds a ↦ elim (test (has z s)) [ holds b ↦ rw (a, b) | fails b ↦ rw (a, b) ]
+        | fails a ↦ elim (test (has z s)) [ holds b ↦ rw (a, b) | fails b ↦ rw (a, b) ]
+      ])
+
+-- A list is empty, or has its head
+pub first-has : (l : List ℕ) → (first l ≡ 0) ⊎ (has (first l) l ≡ true)
+first-has [] = inl refl
+first-has (x ∷ l) = inr (rw (eq-eqb x x refl))
+
+-- Who stands in the ready line is ready
+stands-ready : (q : Place) → stands lines.Ready q ≡ true → q ≡ Ready
+unfolding stands
+stands-ready Nowhere e = absurd (true≢false (sym e))
+stands-ready Running e = absurd (true≢false (sym e))
+stands-ready Ready e = refl
+stands-ready Parked e = absurd (true≢false (sym e))
+stands-ready (Waiting n) e = absurd (true≢false (sym e))
+stands-ready (Getting n l) e = absurd (true≢false (sym e))
+stands-ready (Putting n l) e = absurd (true≢false (sym e))
+stands-ready (Asleep k) e = absurd (true≢false (sym e))
+
+-- Who stands there stands in the line of those who are ready
+in-ready : (z : ℕ) (t : Tables) → has z (readyLine t) ≡ has z (line lines.Ready t)
+unfolding readyLine
+in-ready z t = has-all (urgency (t .processes)) z [] (line lines.Ready t)
+
+-- Its head, if there is one, is ready
+pub head-ready : (t : Tables) → (first (readyLine t) ≡ 0 → ⊥) → numbered (t .processes) (first (readyLine t)) nobody .place ≡ Ready
+unfolding line
+head-ready t z =
+    ⊎-elim (λ e. absurd (z e))
+    (λ h. stands-ready _ (in-line (standing lines.Ready (t .processes)) (first (readyLine t)) (t .order) (sym (in-ready (first (readyLine t)) t) ∙ h) .0))
+    (first-has (readyLine t))
+
+-- and a number of the table
+pub head-known : (t : Tables) → first (readyLine t) ≤ length (t .processes)
+head-known t =
+    let h = first (readyLine t) in
+    elim (test (leb h (length (t .processes)))) [
+      | holds b ↦ leb-true h (length (t .processes)) b
+      | fails b ↦
+          let past : length (t .processes) < h = leb-false h (length (t .processes)) b in
+          let z : _≡_ {A = ℕ} 0 2 = ap (λ q. code (q .place)) (sym (numbered-past (t .processes) h nobody past)) ∙ ap code (head-ready t (omega arith)) in
+          absurd (omega arith)
+    ]
+
 -- ---- what stays
 
 -- Between t and u at most the places of p and of q, the order's sequence and the runner differ
@@ -100,7 +168,7 @@ only-runs p h t u o =
       rest = λ x. place-rest h x Running u ∙ o .rest x;
     }
 
-only-joins : (p h : ℕ) (place : Place) (t : Tables) → OnlyPlaces p h t (joins p place t)
+pub only-joins : (p h : ℕ) (place : Place) (t : Tables) → OnlyPlaces p h t (joins p place t)
 unfolding joins withPlace withProcess processOf
 only-joins p h place t =
     elim (test (eqb p 0)) [

@@ -2,7 +2,7 @@
 use Prim.Native.Nat.{ℕ}
 use mathlib.Core.Bool.{Bool, true, false, cond}
 use mathlib.Core.List.{List, [], _∷_}
-use lib.Dec.{eqb, leb}
+use lib.Dec.{eqb, leb, ltb}
 use Rattle.arrivals.specs.Order.{movedLast, first}
 use Rattle.tables.specs.declared.Tables.{Tables}
 use Rattle.tables.specs.declared.Process.{Process}
@@ -58,3 +58,7 @@ dispatchedTo head t =
 
 unfoldable pub dispatched : Tables → Tables
 dispatched t = dispatchedTo (first (readyLine t)) t
+
+-- Does the head of these priorities go before the runner? A number above 32 counts as priority 0
+unfoldable pub goes : ℕ → ℕ → ℕ → ℕ → Bool
+goes head running newcomer runner = cond (eqb head 0) false (cond (eqb running 0) true (ltb (cond (leb running 32) runner 0) newcomer))

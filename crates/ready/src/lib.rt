@@ -14,6 +14,7 @@ ghost use Rattle.ready.specs.Ready.{
   letThrough,
   releasedAll,
   runs,
+  goes,
   dispatched,
 };
 
@@ -128,23 +129,51 @@ pub fn runs(t: Tables, p: u8) -> Tables
     next
 }
 
+// Does the head of the ready line go before the runner? These are their priorities; a number above 32 counts as priority 0.
+fn goes(head: u8, running: u8, newcomer: u8, runner: u8) -> bool
+    ensures { λ r. ⌜ r ≡ goes head running newcomer runner ⌝ }
+{
+    if head == 0 {
+        return false;
+    }
+    if running == 0 {
+        return true;
+    }
+    if 32 < running {
+        return 0 < newcomer;
+    }
+    runner < newcomer
+}
+
 // Once at the end of every accepted call: nobody runs and a head is there: it runs; the head is strictly more urgent than
 // the runner: the runner goes to the ready line behind its equals and the head runs.
 pub fn dispatched(t: Tables) -> Tables
     ensures { λ r. ⌜ r ≡ dispatched t ⌝ }
 {
     let head = tables::ready_head(t);
-    if head == 0 {
-        return t;
+    let mut running = t.running;
+    let mut order = t.order;
+    let mut processes = t.processes;
+    let i = tables::entry_of(head);
+    let newcomer = processes[i];
+    let k = tables::entry_of(running);
+    let runner = processes[k];
+    if goes(head, running, newcomer.priority, runner.priority) {
+        if running != 0 {
+            let moved = arrivals::moved_last(order, running);
+            order = moved;
+            if running <= 32 {
+                let back = placed(runner, Place::Ready);
+                processes[k] = back;
+            }
+        }
+        let up = placed(newcomer, Place::Running);
+        processes[i] = up;
+        running = head;
     }
-    let running = t.running;
-    if running == 0 {
-        return runs(t, head);
-    }
-    let runner = tables::process_at(t, running);
-    let newcomer = tables::process_at(t, head);
-    if newcomer.priority <= runner.priority {
-        return t;
-    }
-    runs(runner_joins(t, Place::Ready), head)
+    let mut next = t;
+    next.running = running;
+    next.order = order;
+    next.processes = processes;
+    next
 }
