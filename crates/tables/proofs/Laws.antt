@@ -1,8 +1,9 @@
--- What the loops over the order see, and a line written to the front of zeros.
+-- What the loops over the order see, a line written to the front of zeros, and one entry anew.
 use Prim.Native.Nat.{ℕ, zero, suc, _+_, _-_, _%_, _≤_, _<_}
 use mathlib.Core.Path.{_≡_, refl, sym, ap, _∙_}
 use mathlib.Core.Bool.{Bool, true, false, cond, true≢false}
 use mathlib.Core.List.{List, [], _∷_, _++_, map, append-nil, append-assoc}
+use mathlib.Core.Logic.{_⊎_, ⊎-elim}
 use native.Mathlib.Omega.{arith}
 use native.Mathlib.Numerals.{add-one}
 use lib.Dec.{eqb, leb, ltb}
@@ -17,7 +18,7 @@ use Rattle.tables.specs.declared.Place.{Place}
 use Rattle.tables.specs.declared.Place.the-variants.{Nowhere, Running, Ready, Parked, Waiting, Getting, Putting, Asleep}
 use Rattle.tables.specs.declared.Line.{Line}
 use Rattle.tables.specs.declared.Line.the-variants as lines
-use Rattle.tables.specs.Laws.{numbered-zero, numbered-past, numbered-at}
+use Rattle.tables.specs.Laws.{numbered-zero, numbered-past, numbered-at, replaced-zero, replaced-past, replaced-at}
 use Rattle.tables.specs.Numbers.{code}
 use Rattle.tables.specs.Access.{numbered, replaced, nobody}
 use Rattle.tables.specs.Lines.{isNumber, stands, waitsAt, urgency, behindEquals, byUrgency, better, padded}
@@ -155,3 +156,15 @@ filled members k whole h a =
     let front : take k members ≡ whole = sym (append-nil _) ∙ a .listed in
     let size : length whole ≡ k = ap length (sym front) ∙ length-take-le k members (omega (arith, a .long)) in
     sym (take-append-drop k members) ∙ rw (front, size, a .zeros)
+
+-- ---- one entry anew
+
+-- The ways to a list that has x at its number p, if p is from 1 to n, and else is as it was: each is the list with x as number p
+pub anew : {A X Y Z : Type 0} (l : List A) (p n : ℕ) (x : A) {r : List A} → length l ≡ n
+    → (X → (1 ≤ p) × (r ≡ set l (p - 1) x)) → (Y → (n < p) × (r ≡ l)) → (Z → (p < 1) × (r ≡ l)) → X ⊎ (Y ⊎ Z) → r ≡ replaced l p x
+anew l p n x long within past none =
+    ⊎-elim
+    (λ w. within w .1 ∙ sym (replaced-at l p x (omega (arith, within w .0))))
+    (⊎-elim
+    (λ w. past w .1 ∙ sym (replaced-past l p x (omega (arith, past w .0))))
+    (λ w. none w .1 ∙ sym (replaced-zero l p x (omega (arith, none w .0)))))

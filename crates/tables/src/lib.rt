@@ -184,16 +184,13 @@ pub fn parcel_for(t: Tables, p: u8) -> Parcel
 pub fn with_process(t: Tables, p: u8, process: Process) -> Tables
     ensures { λ r. ⌜ r ≡ withProcess t p process ⌝ }
 {
-    if p == 0 {
-        return t;
-    }
-    if 32 < p {
-        return t;
-    }
-    let i = (p - 1) as usize;
-    let mut next = t;
     let mut processes = t.processes;
-    processes[i] = process;
+    if 1 <= p {
+        if p <= 32 {
+            processes[(p - 1) as usize] = process;
+        }
+    }
+    let mut next = t;
     next.processes = processes;
     next
 }
@@ -202,16 +199,13 @@ pub fn with_process(t: Tables, p: u8, process: Process) -> Tables
 pub fn with_structure(t: Tables, n: u8, structure: Structure) -> Tables
     ensures { λ r. ⌜ r ≡ withStructure t n structure ⌝ }
 {
-    if n == 0 {
-        return t;
-    }
-    if 24 < n {
-        return t;
-    }
-    let i = (n - 1) as usize;
-    let mut next = t;
     let mut structures = t.structures;
-    structures[i] = structure;
+    if 1 <= n {
+        if n <= 24 {
+            structures[(n - 1) as usize] = structure;
+        }
+    }
+    let mut next = t;
     next.structures = structures;
     next
 }
@@ -220,16 +214,13 @@ pub fn with_structure(t: Tables, n: u8, structure: Structure) -> Tables
 pub fn with_ring(t: Tables, b: u8, ring: Ring) -> Tables
     ensures { λ r. ⌜ r ≡ withRing t b ring ⌝ }
 {
-    if b == 0 {
-        return t;
-    }
-    if 8 < b {
-        return t;
-    }
-    let i = (b - 1) as usize;
-    let mut next = t;
     let mut rings = t.rings;
-    rings[i] = ring;
+    if 1 <= b {
+        if b <= 8 {
+            rings[(b - 1) as usize] = ring;
+        }
+    }
+    let mut next = t;
     next.rings = rings;
     next
 }
@@ -238,16 +229,13 @@ pub fn with_ring(t: Tables, b: u8, ring: Ring) -> Tables
 pub fn with_parcel(t: Tables, p: u8, parcel: Parcel) -> Tables
     ensures { λ r. ⌜ r ≡ withParcel t p parcel ⌝ }
 {
-    if p == 0 {
-        return t;
-    }
-    if 32 < p {
-        return t;
-    }
-    let i = (p - 1) as usize;
-    let mut next = t;
     let mut parcels = t.parcels;
-    parcels[i] = parcel;
+    if 1 <= p {
+        if p <= 32 {
+            parcels[(p - 1) as usize] = parcel;
+        }
+    }
+    let mut next = t;
     next.parcels = parcels;
     next
 }

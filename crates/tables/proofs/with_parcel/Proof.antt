@@ -2,27 +2,14 @@
 use mathlib.Core.Path.{_≡_}
 use borrow.Author.Needs.{needs}
 use lib.ListN.{length}
-use Rattle.tables.specs.Access.{withParcel}
 use Rattle.basics.specs.Lists.{len-map}
-use Rattle.tables.specs.Laws.{replaced-zero, replaced-past, replaced-at}
+use Rattle.tables.specs.Access.{withParcel}
+use Rattle.tables.proofs.Laws.{anew}
 use Rattle.tables.proofs.with_parcel.Statement.{statement}
 use Rattle.tables.proofs.with_parcel.Tie as tie
 
-returns : tie.Need-returns
-unfolding withParcel
-returns c = rw (replaced-zero _ _ _ (c .if1 .taken))
-
-returns-2 : tie.Need-returns-2
-unfolding withParcel
-returns-2 c =
-    let long : length (c .before .before .args .t .parcels) ≡ 32 = search (len-map, needs) in
-    rw (replaced-past (c .before .before .args .t .parcels) (c .before .before .args .p) _ (search needs))
-
-sub-i : tie.Need-sub-i
-sub-i c = search needs
-
-cast-i : tie.Need-cast-i
-cast-i c = search needs
+cast-parcels : tie.Need-cast-parcels
+cast-parcels c = search needs
 
 mul-parcels : tie.Need-mul-parcels
 mul-parcels c = search needs
@@ -30,9 +17,12 @@ mul-parcels c = search needs
 array-set-from-parcels : tie.Need-array-set-from-parcels
 array-set-from-parcels c = search needs
 
-returns-3 : tie.Need-returns-3
+returns : tie.Need-returns
 unfolding withParcel
-returns-3 c = rw (replaced-at (c .before .before .before .args .t .parcels) (c .before .before .before .args .p) _ (c .before .before .if1 .left))
+returns c =
+    let a = c .before .before .args in
+    let long : length (a .t .parcels) ≡ 32 = search (len-map, needs) in
+    rw (anew (a .t .parcels) (a .p) 32 (a .parcel) long (λ w. (w .0 .taken, w .2)) (λ w. (w .1 .left, w .2)) (λ w. (w .0 .left, w .1)) (c .if1 .came))
 
 pub with-parcel-spec : {M : Type 1} → statement M
-with-parcel-spec = tie.close (tie.spec returns returns-2 sub-i cast-i mul-parcels array-set-from-parcels returns-3)
+with-parcel-spec = tie.close (tie.spec cast-parcels mul-parcels array-set-from-parcels returns)

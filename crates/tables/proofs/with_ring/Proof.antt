@@ -2,27 +2,14 @@
 use mathlib.Core.Path.{_≡_}
 use borrow.Author.Needs.{needs}
 use lib.ListN.{length}
-use Rattle.tables.specs.Access.{withRing}
 use Rattle.basics.specs.Lists.{len-map}
-use Rattle.tables.specs.Laws.{replaced-zero, replaced-past, replaced-at}
+use Rattle.tables.specs.Access.{withRing}
+use Rattle.tables.proofs.Laws.{anew}
 use Rattle.tables.proofs.with_ring.Statement.{statement}
 use Rattle.tables.proofs.with_ring.Tie as tie
 
-returns : tie.Need-returns
-unfolding withRing
-returns c = rw (replaced-zero _ _ _ (c .if1 .taken))
-
-returns-2 : tie.Need-returns-2
-unfolding withRing
-returns-2 c =
-    let long : length (c .before .before .args .t .rings) ≡ 8 = search (len-map, needs) in
-    rw (replaced-past (c .before .before .args .t .rings) (c .before .before .args .b) _ (search needs))
-
-sub-i : tie.Need-sub-i
-sub-i c = search needs
-
-cast-i : tie.Need-cast-i
-cast-i c = search needs
+cast-rings : tie.Need-cast-rings
+cast-rings c = search needs
 
 mul-rings : tie.Need-mul-rings
 mul-rings c = search needs
@@ -30,9 +17,12 @@ mul-rings c = search needs
 array-set-from-rings : tie.Need-array-set-from-rings
 array-set-from-rings c = search needs
 
-returns-3 : tie.Need-returns-3
+returns : tie.Need-returns
 unfolding withRing
-returns-3 c = rw (replaced-at (c .before .before .before .args .t .rings) (c .before .before .before .args .b) _ (c .before .before .if1 .left))
+returns c =
+    let a = c .before .before .args in
+    let long : length (a .t .rings) ≡ 8 = search (len-map, needs) in
+    rw (anew (a .t .rings) (a .b) 8 (a .ring) long (λ w. (w .0 .taken, w .2)) (λ w. (w .1 .left, w .2)) (λ w. (w .0 .left, w .1)) (c .if1 .came))
 
 pub with-ring-spec : {M : Type 1} → statement M
-with-ring-spec = tie.close (tie.spec returns returns-2 sub-i cast-i mul-rings array-set-from-rings returns-3)
+with-ring-spec = tie.close (tie.spec cast-rings mul-rings array-set-from-rings returns)
