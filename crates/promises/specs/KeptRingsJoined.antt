@@ -8,7 +8,6 @@ use lib.ListN.{length}
 use borrow.Author.Tests.{eqb-true, eqb-false, eq-eqb, ne-eqb}
 use Rattle.basics.specs.Tests.{test, holds, fails}
 use Rattle.arrivals.specs.Order.{first, count, movedLast}
-use Rattle.arrivals.specs.Listed.{count-moved}
 use Rattle.arrivals.specs.Zeros.{zeros-moved}
 use Rattle.bay.specs.declared.Parcel.{Parcel}
 use Rattle.tables.specs.declared.Tables.{Tables}
@@ -19,10 +18,10 @@ use Rattle.tables.specs.declared.Kind.the-variants.{Ring}
 use Rattle.tables.specs.declared.Line.{Line}
 use Rattle.tables.specs.declared.Line.the-variants.{Getters, Putters}
 use Rattle.tables.specs.Access.{nobody, processOf, ringIn, withProcess, withParcels}
-use Rattle.tables.specs.Laws.{replaced-same, replaced-other}
+use Rattle.tables.specs.Laws.{replaced-same}
 use Rattle.tables.specs.Lines.{line, stands}
 use Rattle.ready.specs.Ready.{placed, withPlace, joins, runnerJoins}
-use Rattle.ready.specs.Laws.{joins-enters, joins-stays}
+use Rattle.ready.specs.Laws.{OnlyPlaces, joins-enters, joins-stays, only-runner-joins}
 use Rattle.rings.specs.Turns.{sides}
 use Rattle.sound.specs.Sound.{placeAt, kindAt, parcelAt, listings, Runs, Fits, Kept, Settled, StillAt, Still}
 use Rattle.sound.specs.Decided.{Typed}
@@ -61,14 +60,18 @@ module _ (n : ℕ) (place : Place) (parcels : List Parcel) (t : Tables) (typed :
   known : x ≤ length (t .processes)
   known = rw (typed .processes) (the-runner typed s some .known)
 
+  -- Nothing but its place, the order and who runs changes
+  after-only : OnlyPlaces x x (withParcels t parcels) after
+  after-only = only-runner-joins x place (withParcels t parcels)
+
   -- What it leaves: its own entry, all others,
   after-process : processOf after x ≡ placed (processOf t x) place
   unfolding runnerJoins joins withPlace withProcess processOf
   after-process = rw (ne-eqb x 0 some) (replaced-same (t .processes) x _ nobody some known)
 
   after-others : (p : ℕ) → (p ≡ x → ⊥) → processOf after p ≡ processOf t p
-  unfolding runnerJoins joins withPlace withProcess processOf
-  after-others p h = rw (ne-eqb x 0 some) (replaced-other (t .processes) x _ p nobody h)
+  unfolding processOf
+  after-others p h = after-only .places p h h
 
   -- the order, and the other lists
   after-order : after .order ≡ movedLast x (t .order)
@@ -76,16 +79,13 @@ module _ (n : ℕ) (place : Place) (parcels : List Parcel) (t : Tables) (typed :
   after-order = rw (ne-eqb x 0 some)
 
   after-structures : after .structures ≡ t .structures
-  unfolding runnerJoins joins withPlace withProcess
-  after-structures = rw (ne-eqb x 0 some)
+  after-structures = after-only .structures
 
   after-rings : after .rings ≡ t .rings
-  unfolding runnerJoins joins withPlace withProcess
-  after-rings = rw (ne-eqb x 0 some)
+  after-rings = after-only .rings
 
   after-parcels : after .parcels ≡ parcels
-  unfolding runnerJoins joins withPlace withProcess
-  after-parcels = rw (ne-eqb x 0 some)
+  after-parcels = after-only .parcels
 
   after-running : after .running ≡ 0
   unfolding runnerJoins
@@ -101,7 +101,7 @@ module _ (n : ℕ) (place : Place) (parcels : List Parcel) (t : Tables) (typed :
   joined-but =
       record {
         structures = after-structures;
-        counts = λ p. rw after-order (count-moved p x (t .order));
+        counts = after-only .listed;
         zeros = rw after-order (zeros-moved x (t .order) (s .zeros) some);
         others = after-others;
         parcels = λ p h. rw after-parcels (parcel p h);

@@ -8,7 +8,7 @@ use native.Mathlib.Omega.{arith}
 use lib.Dec.{eqb}
 use lib.ListN.{length, take, drop, take-append-drop}
 use lib.Seq.{length-take-le}
-use borrow.Author.Tests.{eq-eqb, ne-eqb, eqb-false}
+use borrow.Author.Tests.{eq-eqb, eqb-false}
 use Rattle.basics.specs.Tests.{test, holds, fails}
 use Rattle.bay.specs.declared.Ring as bays
 use Rattle.bay.specs.declared.Parcel.{Parcel}
@@ -21,12 +21,12 @@ use Rattle.tables.specs.declared.Kind.{Kind}
 use Rattle.tables.specs.declared.Kind.the-variants as kinds
 use Rattle.tables.specs.declared.Line.{Line}
 use Rattle.tables.specs.declared.Line.the-variants.{Getters, Putters}
-use Rattle.tables.specs.Access.{replaced, processOf, structureOf, ringIn, parcelFor, withParcels, withProcess, withRing, withParcel}
+use Rattle.tables.specs.Access.{replaced, processOf, structureOf, ringIn, parcelFor, withParcels, withRing, withParcel}
 use Rattle.tables.specs.Lines.{line, stands}
 use Rattle.answers.specs.declared.Outcome.the-variants.{Waits}
 use Rattle.answers.specs.Answers.{plain, step}
-use Rattle.ready.specs.Ready.{withPlace, joins, runnerJoins, dispatched}
-use Rattle.ready.specs.Laws.{joins-enters, joins-stays, dispatched-only}
+use Rattle.ready.specs.Ready.{runnerJoins, dispatched}
+use Rattle.ready.specs.Laws.{joins-enters, joins-stays, only-runner-joins, dispatched-only}
 use Rattle.records.specs.declared.Record.{Record}
 use Rattle.refusals.specs.Refusals.{both, either}
 use Rattle.steps.specs.Steps.{repliedBy, replied}
@@ -166,21 +166,17 @@ module _ (place : Place) (parcels : List Parcel) (t : Tables) (steady : Steady t
         | fails is ↦ stays-none l e-waits (same ∙ stays l was is)
       ]
 
-  -- Structures and rings stay
-  same-lists : (joined .structures ≡ t .structures) × (joined .rings ≡ t .rings)
-  unfolding runnerJoins joins withPlace withProcess
-  same-lists = (rw (ne-eqb (t .running) 0 some), rw (ne-eqb (t .running) 0 some))
-
-  -- So ring n rests
+  -- Structures and rings stay, so ring n rests
   waits-rests : RingDeed n e-waits
   unfolding replied repliedBy Apart
   waits-rests =
       let same = same-dispatched n joined settled in
+      let only = only-runner-joins (t .running) place (withParcels t parcels) in
       let out : (stands (Getters n) Running ≡ false) × (stands (Putters n) Running ≡ false) = apart-running n in
       idle-rests n e-waits (idle-code n e-waits refl)
       (nobody-left (Getters n) (out .0) (same .getters))
       (nobody-left (Putters n) (out .1) (same .putters))
-      (same .bytes ∙ same-bytes n t joined (same-lists .0) (same-lists .1))
+      (same .bytes ∙ same-bytes n t joined (only .structures) (only .rings))
 
 -- ---- put
 

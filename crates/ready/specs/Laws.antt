@@ -168,6 +168,7 @@ only-runs p h t u o =
       rest = λ x. place-rest h x Running u ∙ o .rest x;
     }
 
+-- Joining a line changes nothing but the place of the one who joins, and the order,
 pub only-joins : (p h : ℕ) (place : Place) (t : Tables) → OnlyPlaces p h t (joins p place t)
 unfolding joins withPlace withProcess processOf
 only-joins p h place t =
@@ -189,9 +190,14 @@ unfolding processOf
 only-running p h r t u o =
     record { structures = o .structures; rings = o .rings; parcels = o .parcels; listed = o .listed; places = o .places; rest = o .rest }
 
+-- and when the runner does, also who runs
+pub only-runner-joins : (h : ℕ) (place : Place) (t : Tables) → OnlyPlaces (t .running) h t (runnerJoins place t)
+unfolding runnerJoins
+only-runner-joins h place t = only-running (t .running) h 0 t (joins (t .running) place t) (only-joins (t .running) h place t)
+
 -- Dispatched changes nothing but the runner's and the head's place, the order and who runs
 pub dispatched-only : (t : Tables) → OnlyPlaces (t .running) (first (readyLine t)) t (dispatched t)
-unfolding dispatched dispatchedTo runnerJoins
+unfolding dispatched dispatchedTo
 dispatched-only t =
     let h = first (readyLine t) in
     let p = t .running in
@@ -203,7 +209,7 @@ dispatched-only t =
             | fails b ↦
                 elim (test (leb (processOf t h .priority) (processOf t p .priority))) [
                   | holds k ↦ rw (a, b, k) (only-none p h t)
-                  | fails k ↦ rw (a, b, k) (only-runs p h t (runnerJoins Ready t) (only-running p h 0 t (joins p Ready t) (only-joins p h Ready t)))
+                  | fails k ↦ rw (a, b, k) (only-runs p h t (runnerJoins Ready t) (only-runner-joins h Ready t))
                 ]
           ]
     ]

@@ -15,7 +15,7 @@ use Rattle.tables.specs.Numbers.{isSemaphore}
 use Rattle.tables.specs.Access.{processOf, structureOf, withRunning, withProcess, withStructure}
 use Rattle.answers.specs.declared.Step.{Step}
 use Rattle.ready.specs.Ready.{withPlace, joins, runnerJoins, released, letThrough, releasedAll, runs, dispatched}
-use Rattle.ready.specs.Laws.{dispatched-only}
+use Rattle.ready.specs.Laws.{OnlyPlaces, only-joins, only-runner-joins, dispatched-only}
 use Rattle.records.specs.declared.Record.{Record}
 use Rattle.calls.specs.declared.Deed.{Deed}
 use Rattle.calls.specs.declared.Deed.the-variants as deeds
@@ -49,6 +49,10 @@ StepKeeps t s = KeepsBytes t (s .tables)
 
 -- ---- lines, and who runs
 
+-- Places, the order and who runs are no bytes
+keeps-only : {p q : ℕ} {t u : Tables} → OnlyPlaces p q t u → KeepsBytes t u
+keeps-only o = record { rings = o .rings; parcels = o .parcels }
+
 -- Whoever runs
 keeps-running : {t : Tables} (u : Tables) (p : ℕ) → KeepsBytes t u → KeepsBytes t (withRunning u p)
 keeps-running u p k = record { rings = k .rings; parcels = k .parcels }
@@ -66,13 +70,11 @@ module _ (t : Tables) where
 
   -- a process that joins a line,
   keeps-joins : (p : ℕ) (place : Place) → KeepsBytes t (joins p place t)
-  unfolding joins withPlace withProcess
-  keeps-joins p place = pick (KeepsBytes t) (eqb p 0) (keeps-none t) (record { rings = refl; parcels = refl })
+  keeps-joins p place = keeps-only (only-joins p p place t)
 
   -- also the runner,
   keeps-runner-joins : (place : Place) → KeepsBytes t (runnerJoins place t)
-  unfolding runnerJoins
-  keeps-runner-joins place = keeps-running (joins (t .running) place t) 0 (keeps-joins (t .running) place)
+  keeps-runner-joins place = keeps-only (only-runner-joins (t .running) place t)
 
   -- one that is released,
   keeps-released : (p : ℕ) → KeepsBytes t (released p t)
@@ -92,7 +94,7 @@ keeps-released-all (p ∷ l) t = keeps-then (keeps-released t p) (keeps-released
 
 -- "At the end of every accepted call, once": whoever is due runs
 pub dispatched-keeps : (t : Tables) → KeepsBytes t (dispatched t)
-dispatched-keeps t = record { rings = dispatched-only t .rings; parcels = dispatched-only t .parcels }
+dispatched-keeps t = keeps-only (dispatched-only t)
 
 -- ---- processes
 
