@@ -9,7 +9,7 @@ use borrow.Author.Tests.{eq-eqb, ne-eqb, eqb-true, eqb-false, le-leb, lt-leb, le
 use lib.Dec.{eqb, leb}
 use lib.ListN.{length, getD, drop, length-drop}
 use lib.Seq.{drop-cons}
-use Rattle.basics.specs.Tests.{test, holds, fails}
+use Rattle.basics.specs.Tests.{test, holds, fails, pick}
 use Rattle.tables.specs.declared.Place.{Place}
 use Rattle.tables.specs.declared.Kind.{Kind}
 use Rattle.tables.specs.declared.Kind.the-variants as kinds
@@ -19,7 +19,6 @@ use Rattle.records.specs.Records.{number, lowFirst, Bytes}
 use Rattle.records.specs.Laws.{number-lowFirst, lowFirst-number, bytes-drop, bytes-take, number-range}
 use Rattle.layout.specs.Pieces.{entries, part, same}
 use Rattle.layout.specs.PieceLaws.{part-bytes, length-part, same-true, same-refl}
-use Rattle.layout.specs.Laws.{pick}
 use Rattle.layout.specs.Layout.{flag, placeOf, processBytes, processFrom, valueOf, kindOf, structureBytes, structureFrom, holdingFlag, holdingLength, holdingOf, holdingBytes, parcelFrom, processKept, structureKept, holdingKept}
 
 -- ---- the tests

@@ -1,7 +1,7 @@
 -- The laws of the state's bytes: what was written reads back, and only tables' bytes pass the test. Assumes nothing.
 use Prim.Native.Nat.{ℕ, zero, suc, _+_, _*_, _%_, _^_, _≤_, _<_}
 use mathlib.Core.Path.{_≡_, refl, sym, ap, _∙_}
-use mathlib.Core.Bool.{Bool, true, false, cond, _&&_, true≢false}
+use mathlib.Core.Bool.{Bool, true, false, _&&_, true≢false}
 use mathlib.Core.List.{List, [], _∷_, _++_, append-assoc, append-nil}
 use native.Mathlib.Omega.{arith}
 use native.Mathlib.Nat.{suc-mul, zero-mul, mul-le-mul-right}
@@ -9,7 +9,7 @@ use borrow.Author.Tests.{eq-eqb, ne-eqb, eqb-true}
 use lib.Dec.{eqb}
 use lib.ListN.{length, getD, take, drop, replicate, length-append, length-drop, length-replicate, replicate-append-replicate}
 use lib.Seq.{take-at, drop-at}
-use Rattle.basics.specs.Tests.{test, holds, fails}
+use Rattle.basics.specs.Tests.{test, holds, fails, pick}
 use Rattle.bay.specs.declared.Holding.{Holding}
 use Rattle.bay.specs.declared.Holding.the-variants as holdings
 use Rattle.bay.specs.declared.Parcel.{Parcel}
@@ -306,12 +306,6 @@ pub isState-false : (s : List ℕ) → isState s ≡ false → (t : Tables) → 
 isState-false s e t typed g = true≢false (sym (encode-isState t typed) ∙ ap isState g ∙ e)
 
 -- ---- whatever bytes are read, the tables are in range
-
--- What holds of both holds of the one that is picked
-
-pub pick : {A : Type 0} (P : A → Type 0) (b : Bool) {x y : A} → P x → P y → P (cond b x y)
-pick P true p q = p
-pick P false p q = q
 
 place-typed : (c n k : ℕ) → n < 256 → k < 256 ^ 4 → PlaceTyped (placeOf c n k)
 unfolding placeOf

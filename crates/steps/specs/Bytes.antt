@@ -1,9 +1,10 @@
 -- Which steps leave all rings and parcels as they were: the dispatch, and every deed that moves no bytes. Assumes nothing.
 use Prim.Native.Nat.{ℕ}
 use mathlib.Core.Path.{_≡_, refl, _∙_}
-use mathlib.Core.Bool.{Bool, true, false, cond, true≢false}
+use mathlib.Core.Bool.{true, false, true≢false}
 use mathlib.Core.List.{List, [], _∷_}
 use lib.Dec.{eqb, ltb}
+use Rattle.basics.specs.Tests.{pick}
 use Rattle.tables.specs.declared.Tables.{Tables}
 use Rattle.tables.specs.declared.Process.{Process}
 use Rattle.tables.specs.declared.Structure.{Structure}
@@ -37,11 +38,6 @@ keeps-none t = record { rings = refl; parcels = refl }
 -- One change after another
 keeps-then : {t u v : Tables} → KeepsBytes t u → KeepsBytes u v → KeepsBytes t v
 keeps-then a b = record { rings = b .rings ∙ a .rings; parcels = b .parcels ∙ a .parcels }
-
--- What holds of both holds of the one that is picked
-pick : {A : Type 0} (P : A → Type 0) (b : Bool) {x y : A} → P x → P y → P (cond b x y)
-pick P true p q = p
-pick P false p q = q
 
 -- A step after which all rings and parcels are as they were in t
 abbrev StepKeeps : Tables → Step → Type 0
