@@ -1,7 +1,7 @@
--- What the loops and the plan write, one step on; and a turn of the serving.
+-- What the loops and the plan write, one step on; a turn of the serving; and the two forms of a transfer.
 use Prim.Native.Nat.{ℕ, _+_, _-_, _≤_, _<_}
 use mathlib.Core.Path.{_≡_, refl, sym, _∙_}
-use mathlib.Core.Bool.{Bool, true, false, cond, true≢false}
+use mathlib.Core.Bool.{Bool, true, false, cond, _&&_, true≢false}
 use mathlib.Core.List.{List, [], _∷_, _++_, map, append-nil, append-assoc}
 use lib.Dec.{eqb, leb, ltb}
 use borrow.Author.Tests.{ltb-true, ltb-false}
@@ -193,3 +193,22 @@ pub get-done : (n b l : ℕ) (t u s : Tables) (g : Moved) → g ≡ getOf (ringI
     → step s (answer Done 0 l 0 (g .parcel .bytes)) ≡ gotThrough n b l t
 unfolding gotThrough gotFrom
 get-done n b l t u s g e f h = rw (h, f, e)
+
+-- ---- the form that waits, and the form that does not
+
+-- Where both do the same, that is done
+pub either-form : {A : Type 0} (waits : Bool) (a : A) → a ≡ cond waits a a
+either-form true a = refl
+either-form false a = refl
+
+-- The form that waits, with nobody to wait
+pub nobody-waits : {A : Type 0} (waits nobody : Bool) (a b c : A) → (waits && nobody) ≡ true → a ≡ cond waits (cond nobody a b) c
+nobody-waits true true a b c e = refl
+nobody-waits true false a b c e = absurd (true≢false (sym e))
+nobody-waits false nobody a b c e = absurd (true≢false (sym e))
+
+-- Otherwise, where both do the same, that is done
+pub either-way : {A : Type 0} (waits nobody : Bool) (a b : A) → (waits && nobody) ≡ false → b ≡ cond waits (cond nobody a b) b
+either-way true true a b e = absurd (true≢false e)
+either-way true false a b e = refl
+either-way false nobody a b e = refl

@@ -469,30 +469,23 @@ fn put_waits(t: Tables, n: u8, l: u8, bytes: [u8; 64]) -> Step
     )
 }
 
-// Call 18, put.
-pub fn put_in(t: Tables, n: u8, l: u8, bytes: [u8; 64]) -> Step
-    ensures { λ r. ⌜ r ≡ putIn n l bytes t ⌝ }
+// Call 18, put, or call 19, conditional put, which does not wait.
+pub fn put_in(t: Tables, n: u8, l: u8, bytes: [u8; 64], waits: bool) -> Step
+    ensures { λ r. ⌜ r ≡ cond waits (putIn n l bytes t) (conditionallyPut n l bytes t) ⌝ }
 {
-    if t.running == 0 {
+    if waits & (t.running == 0) {
         return answers::plainly(t, Outcome::No);
     }
     let way = way_in(t, n, l);
     match way {
         Way::Closed => answers::plainly(t, Outcome::No),
         Way::AtOnce(b) => put_through(t, n, b, l, bytes),
-        Way::Blocked => put_waits(t, n, l, bytes),
-    }
-}
-
-// Call 19, conditional put.
-pub fn conditionally_put(t: Tables, n: u8, l: u8, bytes: [u8; 64]) -> Step
-    ensures { λ r. ⌜ r ≡ conditionallyPut n l bytes t ⌝ }
-{
-    let way = way_in(t, n, l);
-    match way {
-        Way::Closed => answers::plainly(t, Outcome::No),
-        Way::AtOnce(b) => put_through(t, n, b, l, bytes),
-        Way::Blocked => answers::plainly(t, Outcome::No),
+        Way::Blocked => {
+            if waits {
+                return put_waits(t, n, l, bytes);
+            }
+            answers::plainly(t, Outcome::No)
+        }
     }
 }
 
@@ -532,9 +525,9 @@ fn get_waits(t: Tables, n: u8, l: u8) -> Step
     answers::plainly(ready::runner_joins(t, Place::Getting(n, l)), Outcome::Waits)
 }
 
-// Call 20, get.
-pub fn got(t: Tables, n: u8, l: u8) -> Step
-    ensures { λ r. ⌜ r ≡ got n l t ⌝ }
+// Call 20, get, or call 21, conditional get, which does not wait.
+pub fn got(t: Tables, n: u8, l: u8, waits: bool) -> Step
+    ensures { λ r. ⌜ r ≡ cond waits (got n l t) (conditionallyGot n l t) ⌝ }
 {
     if t.running == 0 {
         return answers::plainly(t, Outcome::No);
@@ -543,22 +536,12 @@ pub fn got(t: Tables, n: u8, l: u8) -> Step
     match way {
         Way::Closed => answers::plainly(t, Outcome::No),
         Way::AtOnce(b) => got_through(t, n, b, l),
-        Way::Blocked => get_waits(t, n, l),
-    }
-}
-
-// Call 21, conditional get.
-pub fn conditionally_got(t: Tables, n: u8, l: u8) -> Step
-    ensures { λ r. ⌜ r ≡ conditionallyGot n l t ⌝ }
-{
-    if t.running == 0 {
-        return answers::plainly(t, Outcome::No);
-    }
-    let way = way_out(t, n, l);
-    match way {
-        Way::Closed => answers::plainly(t, Outcome::No),
-        Way::AtOnce(b) => got_through(t, n, b, l),
-        Way::Blocked => answers::plainly(t, Outcome::No),
+        Way::Blocked => {
+            if waits {
+                return get_waits(t, n, l);
+            }
+            answers::plainly(t, Outcome::No)
+        }
     }
 }
 
