@@ -15,11 +15,12 @@ use Rattle.tables.specs.declared.Tables.{Tables}
 use Rattle.tables.specs.declared.Place.{Place}
 use Rattle.tables.specs.declared.Place.the-variants.{Nowhere, Running, Ready, Parked, Waiting, Getting, Putting, Asleep}
 use Rattle.tables.specs.declared.Line.the-variants.{Getters, Putters}
-use Rattle.tables.specs.Access.{numbered, nobody, ringIn, withRing}
+use Rattle.tables.specs.Access.{numbered, nobody, processOf, ringIn, withProcess, withRing, withParcel}
 use Rattle.tables.specs.Lines.{stands, standing, line, waitsAt, waitingAt, inLinesOf}
+use Rattle.ready.specs.Ready.{withPlace, joins, runnerJoins}
 use Rattle.rings.specs.Serving.{lengthsOf, lengthFor, getterGoes, putterGoes, who, inTurn, service, services, turns, entered, served}
-use Rattle.rings.specs.Rings.{putThrough, gotFrom, gotThrough}
-use Rattle.answers.specs.declared.Outcome.the-variants.{Done}
+use Rattle.rings.specs.Rings.{putThrough, putWaits, gotFrom, gotThrough}
+use Rattle.answers.specs.declared.Outcome.the-variants.{Done, Waits}
 use Rattle.answers.specs.declared.Step.{Step}
 use Rattle.answers.specs.Answers.{answer, plain, step}
 use Rattle.rings.specs.Laws.{getter-first, putter-first, nobody-first}
@@ -193,6 +194,20 @@ pub get-done : (n b l : ℕ) (t u s : Tables) (g : Moved) → g ≡ getOf (ringI
     → step s (answer Done 0 l 0 (g .parcel .bytes)) ≡ gotThrough n b l t
 unfolding gotThrough gotFrom
 get-done n b l t u s g e f h = rw (h, f, e)
+
+-- The runner's parcel may be filled once it has joined
+parcel-joins : (place : Place) (x : Parcel) (t : Tables) → withParcel (runnerJoins place t) (t .running) x ≡ runnerJoins place (withParcel t (t .running) x)
+unfolding runnerJoins joins withPlace withProcess withParcel processOf
+parcel-joins place x t =
+    elim (test (eqb (t .running) 0)) [
+      | holds e ↦ rw e
+      | fails e ↦ rw e
+    ]
+
+pub put-joined : (n l : ℕ) (bytes : List ℕ) (t u s : Tables) (x : Parcel) (r : Step) → x ≡ parcelOf (take l bytes) → u ≡ runnerJoins (Putting n l) t → s ≡ withParcel u (t .running) x → r ≡ step s (plain Waits)
+    → r ≡ putWaits n l bytes t
+unfolding putWaits
+put-joined n l bytes t u s x r e f h k = rw (k, h, f, e, parcel-joins (Putting n l) (parcelOf (take l bytes)) t)
 
 -- ---- the form that waits, and the form that does not
 
