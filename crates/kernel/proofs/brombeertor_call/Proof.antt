@@ -240,8 +240,8 @@ put-in-requires c κs = search needs
 enum-told-20 : tie.Need-enum-told-20
 enum-told-20 c = search needs
 
-conditionally-put-requires : tie.Need-conditionally-put-requires
-conditionally-put-requires c κs = search needs
+put-in-requires-2 : tie.Need-put-in-requires-2
+put-in-requires-2 c κs = search needs
 
 enum-told-21 : tie.Need-enum-told-21
 enum-told-21 c = search needs
@@ -252,8 +252,8 @@ got-requires c κs = search needs
 enum-told-22 : tie.Need-enum-told-22
 enum-told-22 c = search needs
 
-conditionally-got-requires : tie.Need-conditionally-got-requires
-conditionally-got-requires c κs = search needs
+got-requires-2 : tie.Need-got-requires-2
+got-requires-2 c κs = search needs
 
 enum-told-23 : tie.Need-enum-told-23
 enum-told-23 c = search needs
@@ -356,11 +356,11 @@ brombeertor-call-spec =
     enum-told-19
     put-in-requires
     enum-told-20
-    conditionally-put-requires
+    put-in-requires-2
     enum-told-21
     got-requires
     enum-told-22
-    conditionally-got-requires
+    got-requires-2
     enum-told-23
     reset-ring-requires
     enum-told-24
