@@ -1,12 +1,12 @@
 -- Each outcome of a call from what the callees answered. s, q and p are the three buffers as they came.
 use Prim.Native.Nat.{ℕ, _≤_, _<_}
 use mathlib.Core.Path.{_≡_, refl, sym, ap, _∙_}
-use mathlib.Core.Bool.{Bool, true, false, cond, not, true≢false}
-use mathlib.Core.List.{List, [], _∷_, _++_}
+use mathlib.Core.Bool.{Bool, true, false, not, true≢false}
+use mathlib.Core.List.{List, _++_}
 use native.Mathlib.Omega.{arith}
-use lib.Dec.{eqb, ltb}
+use lib.Dec.{eqb}
 use lib.ListN.{length, drop, replicate, length-append, length-replicate, length-drop}
-use borrow.Author.Tests.{eq-eqb, eqb-true, eqb-false, ltb-true, not-true, not-false}
+use borrow.Author.Tests.{eq-eqb, eqb-true, not-true, not-false}
 use Rattle.basics.specs.Tests.{test, holds, fails}
 use Rattle.tables.specs.declared.Tables.{Tables}
 use Rattle.answers.specs.declared.Outcome.{Outcome}
@@ -25,7 +25,6 @@ use Rattle.steps.specs.Bytes.{stepped-keeps}
 use Rattle.layout.specs.Typed.{Typed}
 use Rattle.layout.specs.Layout.{encode, decode, isState, controlTo, bytesTo}
 use Rattle.layout.specs.Laws.{isState-true, isState-false, decode-typed, same-tables, control-written, all-written}
-use Rattle.sound.specs.Sound.{Sound}
 use Rattle.sound.specs.Tested.{soundB}
 use Rattle.sound.specs.Decided as decided
 use Rattle.kernel.specs.Called.{Holds, Lengths, refusalReply, stored, Called, lengthWrong, notSound, refused, done}
@@ -132,10 +131,11 @@ module _ (s q p : List ℕ) where
           (sym (decided.sound-decided t lists .sure (rw (same-tables t u typed (a .typed) (stands ∙ sym (a .bytes))) (a .sound))) ∙ sym tests ∙ not-true d h))
           refl refl (w ∙ written p r pl ∙ ap bytesOf e)
 
-      module _ (sound : not d ≡ false) {r : Record} {code : ℕ} (asked : r ≡ recordAt q) (refuses : code ≡ refusal t r) where
-        state-held : Holds s t
-        state-held = record { typed = typed; bytes = stands; sound = decided.sound-decided t lists .yes (sym tests ∙ not-false d sound) }
+      -- Else they are the sound state that was read
+      pub state-held : not d ≡ false → Holds s t
+      state-held h = record { typed = typed; bytes = stands; sound = decided.sound-decided t lists .yes (sym tests ∙ not-false d h) }
 
+      module _ (sound : not d ≡ false) {r : Record} {code : ℕ} (asked : r ≡ recordAt q) (refuses : code ≡ refusal t r) where
         asked-here : r ≡ recordOf q
         asked-here = asked ∙ read-at q ql
 
@@ -145,14 +145,14 @@ module _ (s q p : List ℕ) where
         -- A refusal
         pub is-refused : {a : Record} {p′ : List ℕ} → (code ≡ 0 → ⊥) → a ≡ refusalReply code (t .running) → p′ ≡ writtenTo p a → Called s q p code s p′
         is-refused {a} h e w =
-            refused lengths t state-held (λ z. h (refuses-here ∙ z)) refuses-here refl
+            refused lengths t (state-held sound) (λ z. h (refuses-here ∙ z)) refuses-here refl
             (w ∙ written p a pl ∙ ap bytesOf (e ∙ ap (λ k. refusalReply k (t .running)) refuses-here))
 
         -- Done
         pub is-done : {x : Step} {m : Bool} {k : ℕ} {s′ p′ : List ℕ} → code ≡ 0 → x ≡ deedDone (rowOf (r .what) .deed) r t → m ≡ movesBytes (rowOf (r .what) .deed)
             → k ≡ replied x .reply .what → s′ ≡ stored m s (replied x .tables) → p′ ≡ writtenTo p (replied x .reply) → Typed (replied x .tables) → Called s q p k s′ p′
         is-done {x} {m} h steps moves c v w fits =
-            done lengths t state-held accepted (c ∙ ap (λ a. a .reply .what) here) (v ∙ all-stored ∙ ap (λ a. encode (a .tables)) here)
+            done lengths t (state-held sound) accepted (c ∙ ap (λ a. a .reply .what) here) (v ∙ all-stored ∙ ap (λ a. encode (a .tables)) here)
             (w ∙ written p (replied x .reply) pl ∙ ap (λ a. bytesOf (a .reply)) here)
           where
             accepted : refusal t (recordOf q) ≡ 0

@@ -1,6 +1,6 @@
 -- Any two outcomes of one call are identical.
 use Prim.Native.Nat.{ℕ}
-use mathlib.Core.Path.{_≡_, refl, sym, ap, _∙_}
+use mathlib.Core.Path.{_≡_, sym, ap, _∙_}
 use mathlib.Core.List.{List}
 use Rattle.tables.specs.declared.Tables.{Tables}
 use Rattle.records.specs.Records.{recordOf, bytesOf}
@@ -8,7 +8,7 @@ use Rattle.refusals.specs.Refusals.{refusal}
 use Rattle.steps.specs.Steps.{stepped}
 use Rattle.layout.specs.Layout.{encode}
 use Rattle.layout.specs.Laws.{same-tables}
-use Rattle.kernel.specs.Called.{Holds, Lengths, refusalReply, Called, lengthWrong, notSound, refused, done}
+use Rattle.kernel.specs.Called.{Holds, refusalReply, Called, lengthWrong, notSound, refused, done}
 
 -- Bytes are at most one state
 pub one-state : (s : List ℕ) (t u : Tables) → Holds s t → Holds s u → t ≡ u

@@ -26,10 +26,10 @@ use Rattle.tables.specs.Numbers.{code, spot, amount, kindNumber}
 use Rattle.tables.specs.Access.{nobody, nothing, fresh}
 use Rattle.records.specs.Records.{number, lowFirst, Bytes}
 use Rattle.records.specs.Laws.{number-lowFirst, lowFirst-number, bytes-drop, bytes-take, number-range}
-use Rattle.layout.specs.Pieces.{flat, entries, allTo, part, same}
+use Rattle.layout.specs.Pieces.{flat, entries, part, same}
 use Rattle.layout.specs.PieceLaws.{length-part, part-bytes, part-join, part-first, part-second, part-whole, length-flat, flat-part, length-entries, getD-entries, entries-are, every-entry, flat-entries, same-true, same-refl, allTo-each, each-allTo}
 use Rattle.layout.specs.Typed.{Every, every-at, every-of, every-map, PlaceTyped, KindTyped, HoldingTyped, ProcessTyped, StructureTyped, RingTyped, ParcelTyped, Typed}
-use Rattle.layout.specs.Layout.{orderAt, processesAt, structuresAt, baysAt, holdingsAt, ringBytesAt, parcelBytesAt, stateLength, flag, placeOf, processBytes, processFrom, valueOf, kindOf, structureBytes, structureFrom, bayBytes, bayFrom, ringBytes, holdingFlag, holdingLength, holdingOf, holdingBytes, parcelFrom, parcelBytes, controlBytes, heldBytes, encode, processIn, structureIn, bayIn, parcelIn, tablesOf, decode, writtenTo, controlTo, bytesTo, processKept, structureKept, holdingKept, processesKept, structuresKept, holdingsKept, isState}
+use Rattle.layout.specs.Layout.{orderAt, processesAt, structuresAt, baysAt, holdingsAt, ringBytesAt, parcelBytesAt, stateLength, flag, placeOf, processBytes, processFrom, valueOf, kindOf, structureBytes, structureFrom, bayBytes, bayFrom, ringBytes, holdingFlag, holdingLength, holdingOf, holdingBytes, parcelFrom, parcelBytes, controlBytes, heldBytes, encode, processIn, structureIn, bayIn, parcelIn, tablesOf, decode, controlTo, bytesTo, processKept, structureKept, holdingKept, processesKept, structuresKept, holdingsKept, isState}
 
 -- ---- how wide the entries are
 
@@ -618,13 +618,3 @@ module _ (t u : Tables) (typed : Typed t) where
       let front : length (control u) ≡ baysAt = control-size u o p x in
       let long : length (control u ++ held t) ≡ stateLength = rw (length-append, front, ← held-behind t typed, length-drop, length-encode t typed) in
       rw (control-over, eq-eqb (length (control u ++ held t)) stateLength long, take-at (control u) (held t) baysAt front)
-
--- What is written to a buffer of a state's length is what is read there
-pub read-written : (s : List ℕ) (t : Tables) → length s ≡ stateLength → Typed t → decode (writtenTo s t) ≡ t
-unfolding writtenTo
-read-written s t h typed = rw (eq-eqb (length s) stateLength h) (decode-encode t typed)
-
--- A state that was read and is written again stays as it was
-pub write-read : (s : List ℕ) → isState s ≡ true → writtenTo s (decode s) ≡ s
-unfolding writtenTo
-write-read s e = elim (test (eqb (length s) stateLength)) [ holds k ↦ rw k (isState-true s e) | fails k ↦ rw k ]

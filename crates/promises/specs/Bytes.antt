@@ -4,9 +4,9 @@ use mathlib.Core.Path.{_≡_, refl, sym, ap, subst, _∙_}
 use mathlib.Core.Bool.{Bool, true, false, true≢false}
 use mathlib.Core.List.{List, [], _∷_}
 use native.Mathlib.Omega.{arith}
-use lib.Dec.{eqb, ltb}
+use lib.Dec.{eqb}
 use lib.ListN.{length}
-use borrow.Author.Tests.{eq-eqb, ne-eqb, eqb-true, eqb-false, ltb-true, ltb-false}
+use borrow.Author.Tests.{eq-eqb, ne-eqb, eqb-true, eqb-false}
 use Rattle.basics.specs.Tests.{test, holds, fails}
 use Rattle.arrivals.specs.Order.{has}
 use Rattle.tables.specs.declared.Tables.{Tables}
@@ -17,19 +17,18 @@ use Rattle.answers.specs.declared.Outcome.the-variants.{Done, No, Waits}
 use Rattle.answers.specs.Answers.{outcomeNumber}
 use Rattle.calls.specs.Calls.{rowOf}
 use Rattle.records.specs.declared.Record.{Record}
-use Rattle.records.specs.Records.{recordLength, recordOf, recordAt, bytesOf, writtenTo, Bytes}
+use Rattle.records.specs.Records.{recordLength, recordOf, bytesOf, writtenTo, Bytes}
 use Rattle.records.specs.Laws.{record-proper}
 use Rattle.refusals.specs.Refusals.{firstThat, codes, applies, refusal}
 use Rattle.refusals.specs.Laws.{given-applies, none-applies, lowest as lowest-of, lowest-refusal}
 use Rattle.steps.specs.Steps.{After, done as deedDone, replied, repliedBy, refused as refusedStep, steppedBy, stepped}
 use Rattle.layout.specs.Typed.{Typed, Every}
-use Rattle.layout.specs.Layout as layout
 use Rattle.layout.specs.Layout.{stateLength, encode, decode, isState}
 use Rattle.layout.specs.Laws.{fresh-typed, encode-fresh}
 use Rattle.sound.specs.Tested.{soundB}
 use Rattle.kernel.specs.Called.{Holds, Lengths, refusalReply, Called, lengthWrong, notSound, refused, done, freshState}
 use Rattle.kernel.specs.Laws.{one-state}
-use Rattle.kernel.proofs.Laws.{request-wrong, answer-wrong, no-state, no-sound, is-refused, is-done, lists-long, refused-step, done-code}
+use Rattle.kernel.proofs.Laws.{request-wrong, answer-wrong, no-state, no-sound, state-held, lists-long, refused-step, done-code}
 use Rattle.promises.specs.Kept.{SoundTables, stepped-sound, fresh-sound}
 use Rattle.promises.specs.KeptTyped.{stepped-typed}
 use Rattle.promises.specs.Run.{handled, handled-request, handled-rubbish, afterBytes, afterAll, run, events, codesOf, bytes-sound}
@@ -79,23 +78,19 @@ some-outcome s q p bytes =
               }
           | holds h ↦
               (let t = decode s in
-              let r = recordAt q in
-              let x = deedDone (rowOf (r .what) .deed) r t in
-              elim (test (eqb (refusal t r) 0)) [
+              let lengths : Lengths q p = record { request = ql; answer = pl } in
+              let held = state-held s q p ql pl bytes {b = isState s} {d = soundB t} refl (rw g refl) refl refl (rw h refl) in
+              let after = stepped t (recordOf q) in
+              let refusing = refusalReply (refusal t (recordOf q)) (t .running) in
+              elim (test (eqb (refusal t (recordOf q)) 0)) [
                 | holds i ↦
                     record {
-                      code = replied x .reply .what;
-                      state = layout.writtenTo s (replied x .tables);
-                      answer = writtenTo p (replied x .reply);
-                      called = is-done s q p ql pl bytes {b = isState s} {d = soundB t} refl (rw g refl) refl refl (rw h refl) {r = r} refl refl (eqb-true (refusal t r) 0 i) refl refl refl refl;
+                      code = after .reply .what;
+                      state = encode (after .tables);
+                      answer = bytesOf (after .reply);
+                      called = done lengths t held (eqb-true _ 0 i) refl refl refl;
                     }
-                | fails i ↦
-                    record {
-                      code = refusal t r;
-                      state = s;
-                      answer = writtenTo p (refusalReply (refusal t r) (t .running));
-                      called = is-refused s q p ql pl bytes {b = isState s} {d = soundB t} refl (rw g refl) refl refl (rw h refl) {r = r} refl refl (eqb-false (refusal t r) 0 i) refl refl;
-                    }
+                | fails i ↦ record { code = refusing .what; state = s; answer = bytesOf refusing; called = refused lengths t held (eqb-false _ 0 i) refl refl refl }
               ])
         ]
 

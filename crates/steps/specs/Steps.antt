@@ -1,7 +1,6 @@
 -- The kernel's step: from this page and those it names a reader can work out any request by hand.
 use Prim.Native.Nat.{ℕ}
-use mathlib.Core.Bool.{Bool, true, false, cond}
-use mathlib.Core.List.{List}
+use mathlib.Core.Bool.{cond}
 use lib.Dec.{eqb}
 use lib.ListN.{replicate}
 use Rattle.tables.specs.declared.Tables.{Tables}
