@@ -1,19 +1,19 @@
 -- What the loops of the test see: a stretch of bytes, a list from its end on, a table that is written, an entry by its number.
 use Prim.Native.Nat.{ℕ, zero, suc, _+_, _-_, _%_, _≤_, _<_}
 use mathlib.Core.Path.{_≡_, refl, sym, ap, _∙_}
-use mathlib.Core.Bool.{Bool, true, false, cond, not, _&&_, and-true, true≢false}
+use mathlib.Core.Bool.{Bool, true, false, cond, not, _&&_, _||_, and-true, true≢false}
 use mathlib.Core.List.{List, [], _∷_, map}
 use mathlib.Core.Logic.{⊎-elim}
 use native.Mathlib.Omega.{arith}
 use native.Mathlib.Numerals.{add-one}
-use lib.Dec.{eqb, leb}
+use lib.Dec.{eqb, leb, ltb}
 use lib.ListN.{length, getD, set, take, drop, replicate, length-map, List·getD-map, drop-of-length-le, length-replicate, getD-replicate, length-drop}
 use lib.Seq.{slice, slice-cons, drop-cons, length-take-le, take-all, take-suc, take-suc-set}
-use borrow.Author.Tests.{eq-eqb, ne-eqb, eqb-true, eqb-false, leb-true, leb-false, le-leb, lt-leb}
+use borrow.Author.Tests.{eq-eqb, ne-eqb, eqb-true, eqb-false, leb-true, leb-false, ltb-true, le-leb, lt-leb}
 use Rattle.basics.specs.Tests.{test, holds, fails}
 use Rattle.arrivals.specs.Order.{one, count, has, keep, first}
 use Rattle.arrivals.specs.Listed.{one-same}
-use Rattle.arrivals.specs.Views.{head-of}
+use Rattle.arrivals.specs.Views.{head-of, keep-none}
 use Rattle.bay.specs.declared.Holding.{Holding}
 use Rattle.bay.specs.declared.Holding.the-variants.{Nothing, Bytes}
 use Rattle.bay.specs.Round.{table, tabled, getD-table, length-table, set-table}
@@ -34,8 +34,10 @@ use Rattle.bay.specs.Bay.{emptyBay}
 use Rattle.rings.specs.Serving.{asked, lengthsOf, lengthFor, getterGoes, putterGoes}
 use Rattle.rings.specs.Serving.{getterCan, putterCan}
 use Rattle.rings.specs.Changes.{length-of}
-use Rattle.sound.specs.Tested.{rankOf, rankTested, bayTested, sizesOf, heldOf, entryTested, neitherGoes, restsAt, orderTested, valueTested, urgencyTested, settledTested, soundB, stillTested, stillnessTested, listedTested, runsTested, placeTested, keptTested, fitsTested, processTested, every, allZero, keptAs, clearTested, named, listingsOf, usersOf, headsOf, standsIn}
+use Rattle.sound.specs.Tested.{rankOf, rankTested, bayTested, sizesOf, heldOf, entryTested, neitherGoes, restsAt, offRings, orderTested, valueTested, urgencyTested, settledTested, soundB, stillTested, stillnessTested, listedTested, runsTested, placeTested, keptTested, fitsTested, processTested, every, allZero, keptAs, clearTested, named, listingsOf, usersOf, headsOf, standsIn}
 use Rattle.sound.specs.Sound.{bayOf, users, placeAt, kindAt, ringAt, parcelAt}
+use Rattle.sound.specs.Deciding.{Decides, is-set, each}
+use Rattle.sound.specs.Decided.{entries}
 use Rattle.structures.specs.Structures.{isIn}
 
 -- ---- a stretch of bytes
@@ -403,6 +405,29 @@ still-at t n (Ring c) h e =
 pub still-same : (t : Tables) → every 24 (restsAt (t .processes) (t .structures) (sizesOf (t .rings)) (heldOf (t .rings)) (headsOf 5 (t .processes) (t .order)) (headsOf 6 (t .processes) (t .order))) ≡ stillnessTested t
 unfolding stillnessTested
 still-same t = every-same 24 _ _ (λ n h. still-at t n (kindAt (t .structures) n) h refl)
+
+-- Whoever is at no ring has neither of the two numbers
+off-ring : (x c : ℕ) → 5 ≤ c → c ≤ 6 → (ltb x 5 || ltb 6 x) ≡ true → eqb x c ≡ false
+off-ring x c u v e = ne-eqb x c (λ q. elim (test (ltb x 5)) [ holds h ↦ omega (arith, ltb-true x 5 h) | fails h ↦ omega (arith, ltb-true 6 x (rw h at e)) ])
+
+-- The test passes every number exactly when it passes each
+passed : (n : ℕ) (f : ℕ → Bool) → Decides (every n f) ((p : ℕ) → 1 ≤ p → p ≤ n → f p ≡ true)
+passed n f = each n f (λ p. f p ≡ true) (λ p. is-set (f p))
+
+-- Where nobody is at a ring, no line of a ring has a head, so none could be served
+module _ (ps : List Process) (order : List ℕ) (long : length ps ≡ 32) (off : every 32 (λ p. offRings (placeAt ps p)) ≡ true) where
+  headless : (c n : ℕ) → 5 ≤ c → c ≤ 6 → n ≤ 24 → getD (headsOf c ps order) n 0 ≡ 0
+  unfolding offRings
+  headless c n u v h =
+      let each-off = entries ps nobody 32 (λ q. offRings (q .place) ≡ true) long refl (passed 32 (λ p. offRings (placeAt ps p)) .yes off) in
+      head-at c ps order n (omega arith) ∙ ap first (keep-none (standsIn c ps n) order (λ y k. rw (off-ring (code (placeAt ps y)) c u v (each-off y))))
+
+  pub nobody-rests : (structures : List Structure) (sizes held : List ℕ) → every 24 (restsAt ps structures sizes held (headsOf 5 ps order) (headsOf 6 ps order)) ≡ true
+  unfolding restsAt neitherGoes
+  nobody-rests structures sizes held =
+      passed 24 (restsAt ps structures sizes held (headsOf 5 ps order) (headsOf 6 ps order)) .sure (λ n u v.
+      rw (headless 5 n (omega arith) (omega arith) v, headless 6 n (omega arith) (omega arith) v)
+      (elim (test (isRing (kindAt structures n))) [ holds e ↦ rw e | fails e ↦ rw e ]))
 
 -- A process
 pub process-turn : (running : ℕ) (times : List ℕ) (ps : List Process) (structures : List Structure) (sizes : List ℕ) (parcels : List Parcel) (p : ℕ)

@@ -51,7 +51,7 @@ anywhere n P a b c p =
     ]
 
 -- So where the entries of a list of n fit, and what a number outside reads fits, all do
-entries : {A : Type 0} (l : List A) (d : A) (n : ℕ) (P : A → Type 0) → length l ≡ n → P d → ((p : ℕ) → 1 ≤ p → p ≤ n → P (numbered l p d)) → (p : ℕ) → P (numbered l p d)
+pub entries : {A : Type 0} (l : List A) (d : A) (n : ℕ) (P : A → Type 0) → length l ≡ n → P d → ((p : ℕ) → 1 ≤ p → p ≤ n → P (numbered l p d)) → (p : ℕ) → P (numbered l p d)
 entries l d n P long x h =
     anywhere n (λ p. P (numbered l p d)) (rw (numbered-zero l 0 d refl) x) (λ p u. rw (numbered-past l p d (omega arith)) x) h
 

@@ -1,8 +1,8 @@
 -- The test of soundness: of every process, every structure and every bay.
 use Prim.Native.Nat.{ℕ, zero, suc, _+_, _-_}
-use mathlib.Core.Bool.{Bool, true, false, cond, not, _&&_}
+use mathlib.Core.Bool.{Bool, true, false, cond, not, _&&_, _||_}
 use mathlib.Core.List.{List, [], _∷_, map}
-use lib.Dec.{eqb, leb}
+use lib.Dec.{eqb, leb, ltb}
 use lib.ListN.{length, getD, take, drop}
 use Rattle.arrivals.specs.Order.{count, zerosFirst, keep, first}
 use Rattle.bay.specs.declared.Ring as bays
@@ -215,3 +215,7 @@ restsAt processes structures sizes held getters putters n =
     (neitherGoes (numbered sizes (bayOf (kindAt structures n)) 0) (numbered held (bayOf (kindAt structures n)) 0)
     (getD getters n 0) (asked (placeAt processes (getD getters n 0))) (getD putters n 0) (asked (placeAt processes (getD putters n 0))))
     true
+
+-- Is this place in no line of a ring: neither getting, 5, nor putting, 6?
+unfoldable pub offRings : Place → Bool
+offRings place = ltb (code place) 5 || ltb 6 (code place)

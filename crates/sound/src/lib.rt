@@ -18,7 +18,7 @@ ghost use Rattle.bay.specs.Bay.{inRange};
 ghost use Rattle.tables.specs.Lines.{isNumber};
 ghost use Rattle.tables.specs.Numbers.{code};
 ghost use Rattle.tables.specs.declared.Kind.the-variants as kinds;
-ghost use Rattle.sound.specs.Sound.{kindAt, ringAt, bayOf, listings, users};
+ghost use Rattle.sound.specs.Sound.{placeAt, kindAt, ringAt, bayOf, listings, users};
 ghost use Rattle.sound.specs.Tested.{
   every,
   allZero,
@@ -46,6 +46,7 @@ ghost use Rattle.sound.specs.Tested.{
   heldOf,
   neitherGoes,
   restsAt,
+  offRings,
   rankTested,
   urgencyTested,
   soundB,
@@ -488,7 +489,24 @@ fn still_fits(size: u16, held: u16, getter: u8, wants: u8, putter: u8, brings: u
     !rings::getter_goes(getter, wants, held) & !rings::putter_goes(putter, brings, held, size)
 }
 
-// No head of a ring's lines could be served. The sizes and held counts are those of the bays.
+// Does nobody stand in a line of a ring?
+fn nobody_at_rings(processes: [Process; 32]) -> bool
+    ensures { λ r. ⌜ r ≡ every 32 (λ p. offRings (placeAt processes p)) ⌝ }
+{
+    let mut nobody = true;
+    let mut i: usize = 0;
+    while i < 32 {
+        let process = processes[i];
+        let place = process.place;
+        let code = tables::code_of(place);
+        nobody = nobody & ((code < 5) | (6 < code));
+        i += 1;
+    }
+    nobody
+}
+
+// No head of a ring's lines could be served. The sizes and held counts are those of the bays. Where nobody stands at a
+// ring, as is usual, no heads are looked for.
 fn still(
     order: [u8; 32],
     processes: [Process; 32],
@@ -498,6 +516,9 @@ fn still(
 ) -> bool
     ensures { λ r. ⌜ r ≡ every 24 (restsAt processes structures sizes held (headsOf 5 processes order) (headsOf 6 processes order)) ⌝ }
 {
+    if nobody_at_rings(processes) {
+        return true;
+    }
     let heads = heads_of(processes, order);
     let mut ok = true;
     let mut i: usize = 0;

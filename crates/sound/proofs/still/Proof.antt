@@ -1,4 +1,4 @@
--- `sound::still` meets its contract: a turn tests one structure more, with its heads noted beforehand.
+-- `sound::still` meets its contract: where nobody stands at a ring there is no head; else a turn tests one structure more, with its heads noted beforehand.
 use mathlib.Core.List.{List}
 use Rattle.tables.specs.declared.Structure.{Structure}
 use Rattle.tables.specs.Access.{nothing}
@@ -21,6 +21,15 @@ Inv-loop processes structures sizes held heads ok₀ i₀ ok i = (i ≤ 24) × (
 
 abbrev μ-loop : tie.MeasureT-loop
 μ-loop processes structures sizes held heads ok₀ i₀ ok i = 24 - i
+
+nobody-at-rings-requires : tie.Need-nobody-at-rings-requires Inv-loop μ-loop
+nobody-at-rings-requires c κs = search needs
+
+returns : tie.Need-returns Inv-loop μ-loop
+returns c =
+    let a = c .before .before .args in
+    let processes : length (a .t2) ≡ 32 = search (len-map, needs) in
+    sym (laws.nobody-rests (a .t2) (a .order) processes (sym (c .before .nobody-at-rings .ensures) ∙ c .if1 .taken) (a .t3) (a .t4) (a .t5))
 
 heads-of-requires : tie.Need-heads-of-requires Inv-loop μ-loop
 heads-of-requires c κs = search needs
@@ -111,7 +120,7 @@ loop-less c = search needs
 
 loop-again : tie.Need-loop-again Inv-loop μ-loop
 loop-again c =
-    let a = c .before .before .before .before .before .before .args in
+    let a = c .before .before .before .before .before .before .before .before .args in
     let l = c .before .before .before .before .loop in
     let heads = c .before .before .before .before .before .heads-of in
     let processes : length (a .t2) ≡ 32 = search (len-map, needs) in
@@ -133,11 +142,11 @@ loop-again c =
           (λ z. w .13 .ensures ∙ ap asked (sym (laws.head-entry 6 (a .t2) (a .order) (l .i + 1) _ _ _ (omega arith) processes putter z (w .10 .ensures))))
           (w .14 .ensures))))
           (λ w. rw (w .1) (sym (and-true (l .ok)) ∙ laws.turn _ (l .i) (l .ok) true (l .inv .3) (laws.rests-other (a .t2) (a .t3) (a .t4) (a .t5) _ _ (l .i + 1) is (sym (c .before .is-ring .ensures) ∙ w .0 .left))))
-          (c .if1 .came),
+          (c .if2 .came),
     )
 
-returns : tie.Need-returns Inv-loop μ-loop
-returns c =
+returns-2 : tie.Need-returns-2 Inv-loop μ-loop
+returns-2 c =
     let l = c .before .loop in
     let all : l .i ≡ 24 = omega arith in
     rw (all, c .before .before .heads-of .ensures .0, c .before .before .heads-of .ensures .1) at (l .inv .3)
@@ -148,6 +157,8 @@ still-spec =
     (tie.spec
     Inv-loop
     μ-loop
+    nobody-at-rings-requires
+    returns
     heads-of-requires
     loop-holds
     mul-structure
@@ -178,4 +189,4 @@ still-spec =
     add-i
     loop-less
     loop-again
-    returns)
+    returns-2)
