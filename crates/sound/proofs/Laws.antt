@@ -1,7 +1,7 @@
 -- What the loops of the test see: a stretch of bytes, a list from its end on, a table that is written, an entry by its number.
 use Prim.Native.Nat.{ℕ, zero, suc, _+_, _-_, _%_, _≤_, _<_}
 use mathlib.Core.Path.{_≡_, refl, sym, ap, _∙_}
-use mathlib.Core.Bool.{Bool, true, false, cond, not, _&&_, _||_, and-true, true≢false}
+use mathlib.Core.Bool.{Bool, true, false, cond, not, _&&_, _||_, and-true, and-assoc, and-comm, true≢false}
 use mathlib.Core.List.{List, [], _∷_, map}
 use mathlib.Core.Logic.{⊎-elim}
 use native.Mathlib.Omega.{arith}
@@ -34,7 +34,7 @@ use Rattle.bay.specs.Bay.{emptyBay}
 use Rattle.rings.specs.Serving.{asked, lengthsOf, lengthFor, getterGoes, putterGoes}
 use Rattle.rings.specs.Serving.{getterCan, putterCan}
 use Rattle.rings.specs.Changes.{length-of}
-use Rattle.sound.specs.Tested.{rankOf, rankTested, bayTested, sizesOf, heldOf, entryTested, neitherGoes, restsAt, offRings, orderTested, valueTested, urgencyTested, settledTested, soundB, stillTested, stillnessTested, listedTested, runsTested, placeTested, keptTested, fitsTested, processTested, every, allZero, keptAs, clearTested, named, listingsOf, usersOf, headsOf, standsIn}
+use Rattle.sound.specs.Tested.{rankOf, rankTested, ranksAt, bayTested, sizesOf, heldOf, entryTested, neitherGoes, restsAt, offRings, orderTested, valueTested, urgencyTested, settledTested, soundB, stillTested, stillnessTested, listedTested, runsTested, placeTested, keptTested, fitsTested, processTested, every, allZero, keptAs, clearTested, named, listingsOf, usersOf, headsOf, standsIn}
 use Rattle.sound.specs.Sound.{bayOf, users, placeAt, kindAt, ringAt, parcelAt}
 use Rattle.sound.specs.Deciding.{Decides, is-set, each}
 use Rattle.sound.specs.Decided.{entries}
@@ -221,6 +221,21 @@ every-next f i = rw (add-one i)
 pub turn : (f : ℕ → Bool) (i : ℕ) (ok b : Bool) → ok ≡ every i f → b ≡ f (i + 1) → (ok && b) ≡ every (i + 1) f
 turn f i ok b e g = rw (every-next f i, e, g)
 
+-- Two tests in one turn, and in one test of every number
+pub both-same : {a b c d : Bool} → a ≡ c → b ≡ d → (a && b) ≡ (c && d)
+both-same e f = rw (e, f)
+
+every-both : (n : ℕ) (f g : ℕ → Bool) → every n (λ p. f p && g p) ≡ (every n f && every n g)
+unfolding every
+every-both zero f g = refl
+every-both (suc n) f g = rw (every-both n f g) (middle (every n f) (every n g) (f (suc n)) (g (suc n)))
+  where
+    middle : (a b c d : Bool) → ((a && b) && (c && d)) ≡ ((a && c) && (b && d))
+    middle false b c d = refl
+    middle true true c d = refl
+    middle true false true d = refl
+    middle true false false d = refl
+
 -- Tests that agree on 1 to n
 pub every-same : (n : ℕ) (f g : ℕ → Bool) → ((p : ℕ) → p ≤ n → f p ≡ g p) → every n f ≡ every n g
 unfolding every
@@ -343,7 +358,7 @@ next-rank : (ps : List Process) (i : ℕ) (d : Process) → i < length ps → ge
 unfolding urgency
 next-rank ps i d h = rw (ne-eqb (i + 1) 0 (λ z. omega arith), next-entry ps i nobody d h) (add-one (getD ps i d .priority))
 
-pub rank-turn : (top : ℕ) (ps : List Process) (i : ℕ) (d : Process) → i < length ps → rankTested top (getD ps i d .priority + 1) (getD ps i d .place) ≡ rankTested top (urgency ps (i + 1)) (placeAt ps (i + 1))
+pub rank-turn : (top : ℕ) (ps : List Process) (i : ℕ) (d : Process) → i < length ps → rankTested top (getD ps i d .priority + 1) (getD ps i d .place) ≡ ranksAt top ps (i + 1)
 rank-turn top ps i d h =
     let place : placeAt ps (i + 1) ≡ getD ps i d .place = ap (λ (y : Process). y .place) (next-entry ps i nobody d h) in
     rw (next-rank ps i d h, place)
@@ -449,13 +464,21 @@ entries-same t =
 -- ---- the whole test
 
 module _ (t : Tables) {r : Bool} (sizes held : List ℕ) (same : sizes ≡ sizesOf (t .rings)) where
-  pub processes-told : r ≡ every 32 (entryTested (t .running) (listingsOf (t .order)) (t .processes) (t .structures) sizes (t .parcels)) → r ≡ every 32 (processTested t)
-  processes-told e = e ∙ rw same (entries-same t)
+  pub processes-told : r ≡ every 32 (λ p. entryTested (t .running) (listingsOf (t .order)) (t .processes) (t .structures) sizes (t .parcels) p && ranksAt (urgency (t .processes) (t .running)) (t .processes) p) → r ≡ (every 32 (processTested t) && urgencyTested (t .running) (t .processes))
+  unfolding urgencyTested
+  processes-told e =
+      e ∙ every-both 32 (entryTested (t .running) (listingsOf (t .order)) (t .processes) (t .structures) sizes (t .parcels)) (ranksAt (urgency (t .processes) (t .running)) (t .processes)) ∙ rw same (both-same (entries-same t) refl)
 
   pub still-told : held ≡ heldOf (t .rings) → r ≡ every 24 (restsAt (t .processes) (t .structures) sizes held (headsOf 5 (t .processes) (t .order)) (headsOf 6 (t .processes) (t .order))) → r ≡ stillnessTested t
   still-told also e = e ∙ rw (same, also) (still-same t)
 
--- The parts of the test, each as it was told
-pub sound-is : (t : Tables) {o n p v b s u : Bool} → o ≡ orderTested (t .order) → n ≡ leb (t .running) 32 → p ≡ every 32 (processTested t) → v ≡ every 24 (λ k. valueTested (kindAt (t .structures) k)) → b ≡ every 8 (λ k. bayTested (users k (t .structures)) (ringAt (t .rings) k)) → s ≡ stillnessTested t → u ≡ urgencyTested (t .running) (t .processes) → (o && (n && (p && (v && b)))) && (s && u) ≡ soundB t
+-- The parts of the test, in the order in which the code tests them, and each as it was told
+reorder : (o n p u v b s : Bool) → (o && (n && ((p && u) && (v && (b && s))))) ≡ ((o && (n && (p && (v && b)))) && (s && u))
+reorder false n p u v b s = refl
+reorder true false p u v b s = refl
+reorder true true false u v b s = refl
+reorder true true true u v b s = and-comm u (v && (b && s)) ∙ simp and-assoc
+
+pub sound-is : (t : Tables) {o n p v b s : Bool} → o ≡ orderTested (t .order) → n ≡ leb (t .running) 32 → p ≡ (every 32 (processTested t) && urgencyTested (t .running) (t .processes)) → v ≡ every 24 (λ k. valueTested (kindAt (t .structures) k)) → b ≡ every 8 (λ k. bayTested (users k (t .structures)) (ringAt (t .rings) k)) → s ≡ stillnessTested t → (o && (n && (p && (v && (b && s))))) ≡ soundB t
 unfolding soundB settledTested
-sound-is t e f g h i j k = rw (e, f, g, h, i, j, k)
+sound-is t {o} {n} {p} {v} {b} {s} e f g h i j = rw (g, ← e, ← f, ← h, ← i, ← j) (reorder o n (every 32 (processTested t)) (urgencyTested (t .running) (t .processes)) v b s)

@@ -9,13 +9,13 @@ use tables::Structure;
 use tables::Tables;
 ghost use Prim.Native.Nat.{_+_, _%_, _≤_, _<_};
 ghost use mathlib.Core.Path.{_≡_};
-ghost use mathlib.Core.Bool.{cond, false};
+ghost use mathlib.Core.Bool.{_&&_, cond, false};
 ghost use lib.Dec.{eqb};
 ghost use lib.ListN.{length};
 ghost use lib.Seq.{slice};
 ghost use mathlib.Core.Bool.{true};
 ghost use Rattle.bay.specs.Bay.{inRange};
-ghost use Rattle.tables.specs.Lines.{isNumber};
+ghost use Rattle.tables.specs.Lines.{isNumber, urgency};
 ghost use Rattle.tables.specs.Numbers.{code};
 ghost use Rattle.tables.specs.declared.Kind.the-variants as kinds;
 ghost use Rattle.sound.specs.Sound.{placeAt, kindAt, ringAt, bayOf, listings, users};
@@ -48,7 +48,7 @@ ghost use Rattle.sound.specs.Tested.{
   restsAt,
   offRings,
   rankTested,
-  urgencyTested,
+  ranksAt,
   soundB,
 };
 
@@ -346,8 +346,49 @@ fn parcel_fits(parcel: Parcel) -> bool
     }
 }
 
-// Do all processes fit: are they listed as often as they are live, and does all that goes with their places fit? The
-// sizes are those of the bays.
+// How urgent a process of this number and priority is.
+fn rank_of(p: u8, priority: u8) -> u16
+    ensures { λ r. ⌜ r ≡ rankOf p priority ⌝ }
+{
+    if p == 0 {
+        return 0;
+    }
+    priority as u16 + 1
+}
+
+// Does a process, if it is ready, rank no higher than the runner?
+fn rank_fits(top: u16, rank: u16, place: Place) -> bool
+    ensures { λ r. ⌜ r ≡ rankTested top rank place ⌝ }
+{
+    if tables::code_of(place) != 2 {
+        return true;
+    }
+    rank <= top
+}
+
+// The priority of process p, whose entry has this one.
+fn priority_named(p: u8, priority: u8) -> u8
+    ensures { λ r. ⌜ r ≡ named 32 p priority 0 ⌝ }
+{
+    if p == 0 {
+        return 0;
+    }
+    if 32 < p {
+        return 0;
+    }
+    priority
+}
+
+// How urgent the runner is; 0 where nobody runs.
+fn runner_rank(running: u8, processes: [Process; 32]) -> u16
+    ensures { λ r. ⌜ r ≡ urgency processes running ⌝ }
+{
+    let runner = processes[tables::entry_of(running)];
+    rank_of(running, priority_named(running, runner.priority))
+}
+
+// Do all processes fit: are they listed as often as they are live, does all that goes with their places fit, and does
+// nobody who is ready rank higher than the runner? The sizes are those of the bays.
 fn processes_fit(
     running: u8,
     order: [u8; 32],
@@ -356,9 +397,10 @@ fn processes_fit(
     sizes: [u16; 8],
     parcels: [Parcel; 32],
 ) -> bool
-    ensures { λ r. ⌜ r ≡ every 32 (entryTested running (listingsOf order) processes structures sizes parcels) ⌝ }
+    ensures { λ r. ⌜ r ≡ every 32 (λ p. entryTested running (listingsOf order) processes structures sizes parcels p && ranksAt (urgency processes running) processes p) ⌝ }
 {
     let times = listings_of(order);
+    let top = runner_rank(running, processes);
     let mut ok = true;
     let mut i: usize = 0;
     while i < 32 {
@@ -376,7 +418,9 @@ fn processes_fit(
         let holds = parcel.holds;
         let fits = place_fits(kind, size, process, holds);
         let kept = parcel_fits(parcel);
-        ok = ok & ((listed & runs) & (fits & kept));
+        let rank = process.priority as u16 + 1;
+        let ranks = rank_fits(top, rank, place);
+        ok = ok & (((listed & runs) & (fits & kept)) & ranks);
         i += 1;
     }
     ok
@@ -544,57 +588,6 @@ fn still(
     ok
 }
 
-// How urgent a process of this number and priority is.
-fn rank_of(p: u8, priority: u8) -> u16
-    ensures { λ r. ⌜ r ≡ rankOf p priority ⌝ }
-{
-    if p == 0 {
-        return 0;
-    }
-    priority as u16 + 1
-}
-
-// Does a process, if it is ready, rank no higher than the runner?
-fn rank_fits(top: u16, rank: u16, place: Place) -> bool
-    ensures { λ r. ⌜ r ≡ rankTested top rank place ⌝ }
-{
-    if tables::code_of(place) != 2 {
-        return true;
-    }
-    rank <= top
-}
-
-// The priority of process p, whose entry has this one.
-fn priority_named(p: u8, priority: u8) -> u8
-    ensures { λ r. ⌜ r ≡ named 32 p priority 0 ⌝ }
-{
-    if p == 0 {
-        return 0;
-    }
-    if 32 < p {
-        return 0;
-    }
-    priority
-}
-
-// Nobody who is ready ranks higher than the runner.
-fn urgent(running: u8, processes: [Process; 32]) -> bool
-    ensures { λ r. ⌜ r ≡ urgencyTested running processes ⌝ }
-{
-    let runner = processes[tables::entry_of(running)];
-    let top = rank_of(running, priority_named(running, runner.priority));
-    let mut ok = true;
-    let mut i: usize = 0;
-    while i < 32 {
-        let process = processes[i];
-        let place = process.place;
-        let rank = process.priority as u16 + 1;
-        ok = ok & rank_fits(top, rank, place);
-        i += 1;
-    }
-    ok
-}
-
 // Are the tables sound: settled, still and urgent? A helper takes only the tables that it reads, so that the large ones
 // are copied once at most.
 pub fn sound(t: Tables) -> bool
@@ -624,8 +617,5 @@ pub fn sound(t: Tables) -> bool
     if !bays.fit {
         return false;
     }
-    if !still(order, processes, structures, sizes, held) {
-        return false;
-    }
-    urgent(running, processes)
+    still(order, processes, structures, sizes, held)
 }
