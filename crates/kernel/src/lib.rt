@@ -89,7 +89,8 @@ fn finished(state: &mut [u8], answer: &mut [u8], step: Step, moves: bool) -> u32
     reply.what as u32
 }
 
-// Carries out a request on a state: the code is returned and stands in the reply.
+// Carries out a request on a state: the code is returned and stands in the reply. The match on the deed stands in the
+// function that owns the tables: one between would copy them once more.
 #[no_mangle]
 pub extern "C" fn brombeertor_call(state: &mut [u8], request: &[u8], answer: &mut [u8]) -> u32
     ensures { λ r. ⌜ Called (now (state .entry)) (now (request .entry)) (now (answer .entry)) r (now (state .exit)) (now (answer .exit)) ⌝ }
