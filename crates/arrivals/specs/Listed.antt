@@ -3,7 +3,7 @@ use mathlib.Core.Path.{_≡_, refl, sym, ap, _∙_}
 use Prim.Native.Nat.{ℕ, suc, _+_, _<_}
 use native.Mathlib.Omega.{arith}
 use native.Mathlib.Nat.{zero-add}
-use mathlib.Core.Bool.{Bool, true, false}
+use mathlib.Core.Bool.{true, false}
 use mathlib.Core.List.{List, [], _∷_, _++_}
 use lib.ListN.{length, drop, length-append, length-drop}
 use lib.Dec.{eqb, ltb, leb·suc-suc}
@@ -33,6 +33,13 @@ pub head-goes : (x : ℕ) (l : List ℕ) → first l ≡ x → without x l ≡ d
 unfolding without
 head-goes x [] h = refl
 head-goes x (a ∷ l) h = without-here x a l (eq-eqb a x h)
+
+-- The head of a list is in it, and so is whoever is behind it
+pub has-here : (x : ℕ) (l : List ℕ) → has x (x ∷ l) ≡ true
+has-here x l = rw (eq-eqb x x refl)
+
+pub has-behind : (x p : ℕ) (l : List ℕ) → has p l ≡ true → has p (x ∷ l) ≡ true
+has-behind x p l h = elim (test (eqb x p)) [ holds e ↦ rw e | fails e ↦ rw e h ]
 
 -- x is listed where fewer than all stand before it
 pub has-ahead : (x : ℕ) (l : List ℕ) → has x l ≡ ltb (ahead x l) (length l)

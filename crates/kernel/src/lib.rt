@@ -50,6 +50,13 @@ fn refusal_reply(code: u8, running: u8) -> Record
     }
 }
 
+// The reply to a state that is not sound.
+fn not_sound() -> Record
+    ensures { λ r. ⌜ r ≡ refusalReply 40 0 ⌝ }
+{
+    refusal_reply(40, 0)
+}
+
 // An accepted call's reply: what the step answered, and who runs now.
 fn reply_of(said: Answer, running: u8) -> Record
     ensures { λ r. ⌜ r ≡ reply (outcomeNumber (said .outcome)) running (said .n) (said .l) (said .m) (said .bytes) ⌝ }
@@ -102,12 +109,12 @@ pub extern "C" fn brombeertor_call(state: &mut [u8], request: &[u8], answer: &mu
         return 39;
     }
     if !layout::is_state(&*state) {
-        records::write(&mut *answer, refusal_reply(40, 0));
+        records::write(&mut *answer, not_sound());
         return 40;
     }
     let t = layout::read(&*state);
     if !sound::sound(t) {
-        records::write(&mut *answer, refusal_reply(40, 0));
+        records::write(&mut *answer, not_sound());
         return 40;
     }
     let r = records::read(request);

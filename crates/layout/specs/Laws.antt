@@ -390,7 +390,7 @@ every-replicate : {A : Type 0} (P : A → Type 0) (x : A) → P x → (n : ℕ) 
 every-replicate P x p zero = tt
 every-replicate P x p (suc n) = (p, every-replicate P x p n)
 
-bytes-zeros : (n : ℕ) → Bytes (replicate n 0)
+pub bytes-zeros : (n : ℕ) → Bytes (replicate n 0)
 bytes-zeros zero i = omega arith
 bytes-zeros (suc n) zero = omega arith
 bytes-zeros (suc n) (suc i) = bytes-zeros n i

@@ -9,6 +9,7 @@ use lib.ListN.{length}
 use borrow.Author.Tests.{eq-eqb, ne-eqb, eqb-true, eqb-false}
 use Rattle.basics.specs.Tests.{test, holds, fails}
 use Rattle.arrivals.specs.Order.{has}
+use Rattle.arrivals.specs.Listed.{has-behind}
 use Rattle.tables.specs.declared.Tables.{Tables}
 use Rattle.tables.specs.Access.{fresh}
 use Rattle.bay.specs.Bay.{zeros}
@@ -110,9 +111,6 @@ pub data Numbered (s q p : List ℕ) (code : ℕ) : Type 0 where
 -- Every code of the list is above 40
 code-above : (k : ℕ) → has k codes ≡ true → 40 < k
 code-above k h = lowest-of (λ j. true) codes refl k h refl
-
-has-behind : (k a : ℕ) (l : List ℕ) → has k l ≡ true → has k (a ∷ l) ≡ true
-has-behind k a l h = elim (test (eqb a k)) [ holds q ↦ rw q | fails q ↦ rw q h ]
 
 -- A number given is in the list
 given-listed : (f : ℕ → Bool) (l : List ℕ) → (firstThat f l ≡ 0 → ⊥) → has (firstThat f l) l ≡ true
@@ -254,7 +252,7 @@ outcome-number No = refl
 outcome-number Waits = refl
 
 refusal-number : (k : ℕ) → has k codes ≡ true → has k numbers ≡ true
-refusal-number k h = has-behind k 0 (1 ∷ 2 ∷ 39 ∷ codes) (has-behind k 1 (2 ∷ 39 ∷ codes) (has-behind k 2 (39 ∷ codes) (has-behind k 39 codes h)))
+refusal-number k h = has-behind 0 k (1 ∷ 2 ∷ 39 ∷ codes) (has-behind 1 k (2 ∷ 39 ∷ codes) (has-behind 2 k (39 ∷ codes) (has-behind 39 k codes h)))
 
 stepped-number : (t : Tables) (r : Record) → has (stepped t r .reply .what) numbers ≡ true
 unfolding stepped steppedBy refusedStep replied repliedBy

@@ -25,7 +25,7 @@ use Rattle.tables.specs.Lines.{line, stands, standing, urgency, readyLine}
 use Rattle.rings.specs.Serving.{asked, getterGoes, putterGoes, getterCan, putterCan}
 use Rattle.rings.specs.Changes.{getting, putting, length-of}
 use Rattle.rings.specs.Turns.{nowhere-getting, nowhere-putting}
-use Rattle.rings.specs.Steps.{has-here}
+use Rattle.arrivals.specs.Listed.{has-here}
 use Rattle.sound.specs.Sound.{kindAt, bayOf, AtZero, Sound}
 use Rattle.sound.specs.Sentences.{semaphore-with-a-line-is-at-0, ring-heads-wait, getter-length-fits, putter-length-fits, no-less-urgent-than-the-head, nobody-runs-nobody-ready}
 use Rattle.promises.specs.KeptReady.{urgency-some}

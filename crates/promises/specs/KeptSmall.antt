@@ -42,6 +42,7 @@ use Rattle.calls.specs.declared.Deed.the-variants as deeds
 use Rattle.steps.specs.Steps.{done}
 use Rattle.promises.specs.KeptStructures.{created-by}
 use Rattle.promises.specs.KeptTick.{mapped-at}
+use Rattle.layout.specs.Laws as layout
 
 -- ---- bytes below 256
 
@@ -55,9 +56,7 @@ bytes-table (suc n) f h (suc i) = bytes-table n (λ j. f (suc j)) (λ j. h (suc 
 -- Zeros are bytes,
 bytes-zeros : (n : ℕ) → Bytes (zeros n)
 unfolding zeros
-bytes-zeros zero i = omega arith
-bytes-zeros (suc n) zero = omega arith
-bytes-zeros (suc n) (suc i) = bytes-zeros n i
+bytes-zeros n = layout.bytes-zeros n
 
 -- and so are bytes behind bytes
 bytes-append : (a b : List ℕ) → Bytes a → Bytes b → Bytes (a ++ b)

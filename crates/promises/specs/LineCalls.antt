@@ -36,7 +36,7 @@ use Rattle.semaphores.specs.Semaphores.{kindOf, withKind, value, lowered, raise
 use Rattle.rings.specs.Changes.{getting, putting}
 use Rattle.rings.specs.Laws as rule
 use Rattle.rings.specs.Laws.{Next, neither, next, nobody-goes, nobody-yet, getter-next, putter-next}
-use Rattle.rings.specs.Steps.{has-here, has-behind}
+use Rattle.arrivals.specs.Listed.{has-here, has-behind}
 use Rattle.rings.specs.Serving.{lengthFor, who, inTurn, entered, withMoved, servedGetter, servedPutter, servedAs, service, services, turns, served}
 use Rattle.rings.specs.Rings.{putThrough, putWaits, putBy, putIn, conditionallyPutBy, conditionallyPut, gotFrom, gotThrough, getWaits, gotBy, got, conditionallyGotBy, conditionallyGot, resetIn, resetKind, resetRing, collectedBytes, collectedFrom, collected}
 use Rattle.sound.specs.Sound.{placeAt, kindAt, Settled}

@@ -8,7 +8,7 @@ use borrow.Author.Tests.{eqb-true, eqb-false}
 use Rattle.basics.specs.Tests.{test, holds, fails}
 use Rattle.arrivals.specs.Order.{has, first}
 use Rattle.arrivals.specs.Views.{keep-same, moved-other, in-line}
-use Rattle.rings.specs.Steps.{has-here, has-behind}
+use Rattle.arrivals.specs.Listed.{has-here, has-behind}
 use Rattle.tables.specs.declared.Tables.{Tables}
 use Rattle.tables.specs.declared.Process.{Process}
 use Rattle.tables.specs.declared.Place.{Place}

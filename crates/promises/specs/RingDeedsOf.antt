@@ -12,7 +12,7 @@ use Rattle.records.specs.declared.Record.{Record}
 use Rattle.calls.specs.declared.Deed.{Deed}
 use Rattle.calls.specs.declared.Deed.the-variants as deeds
 use Rattle.calls.specs.Calls.{rowOf, callNumber}
-use Rattle.rings.specs.Steps.{has-behind}
+use Rattle.arrivals.specs.Listed.{has-behind}
 use Rattle.steps.specs.Steps.{done, replied, refused}
 use Rattle.sound.specs.Sound.{Settled}
 use Rattle.promises.specs.Changes.{Steady}

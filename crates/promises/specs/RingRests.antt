@@ -15,7 +15,7 @@ use Rattle.answers.specs.declared.Step.{Step}
 use Rattle.answers.specs.Answers.{unmoved}
 use Rattle.records.specs.declared.Record.{Record}
 use Rattle.refusals.specs.Refusals.{either}
-use Rattle.rings.specs.Steps.{has-behind}
+use Rattle.arrivals.specs.Listed.{has-behind}
 use Rattle.steps.specs.Steps.{repliedBy, replied}
 use Rattle.sound.specs.Sound.{Settled}
 use Rattle.promises.specs.Run.{Event}

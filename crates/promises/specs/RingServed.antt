@@ -9,7 +9,7 @@ use lib.Seq.{take-paste}
 use borrow.Author.Tests.{eqb-true, eqb-false}
 use Rattle.basics.specs.Tests.{test, holds, fails}
 use Rattle.arrivals.specs.Order.{count, has, keep}
-use Rattle.arrivals.specs.Listed.{listed, is-not-listed, is-listed, count-append}
+use Rattle.arrivals.specs.Listed.{listed, is-not-listed, is-listed, count-append, has-here, has-behind}
 use Rattle.arrivals.specs.Views.{keep-append, keep-none, count-keep, count-keep-le}
 use Rattle.bay.specs.declared.Holding.the-variants.{Bytes}
 use Rattle.bay.specs.Bay.{contents, filled}
@@ -23,7 +23,7 @@ use Rattle.tables.specs.Lines.{line, stands, standing}
 use Rattle.rings.specs.Serving.{getterCan, asked, entering, leaving, service, served}
 use Rattle.rings.specs.Changes.{changed-parcel, changed-parcels, Fit}
 use Rattle.rings.specs.Turns.{Chosen, gets, puts, Turn, nowhere-getting, who-gets, getter-served, parcel-is, none-put, got-bytes, is-putter, who-puts, putter-served, put-bytes, none-got, getter-turn, putter-turn}
-use Rattle.rings.specs.Steps.{has-here, has-behind, served-keeps}
+use Rattle.rings.specs.Steps.{served-keeps}
 use Rattle.sound.specs.Sentences.{in-no-other-line}
 use Rattle.promises.specs.KeptReady.{fits-as}
 use Rattle.promises.specs.KeptRingsServed.{Serves, serves-service}

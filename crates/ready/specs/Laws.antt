@@ -101,7 +101,7 @@ first-has [] = inl refl
 first-has (x ∷ l) = inr (rw (eq-eqb x x refl))
 
 -- Who stands in the ready line is ready
-stands-ready : (q : Place) → stands lines.Ready q ≡ true → q ≡ Ready
+pub stands-ready : (q : Place) → stands lines.Ready q ≡ true → q ≡ Ready
 unfolding stands
 stands-ready Nowhere e = absurd (true≢false (sym e))
 stands-ready Running e = absurd (true≢false (sym e))

@@ -5,10 +5,11 @@ use mathlib.Core.Bool.{Bool, true, false, cond, not, true≢false}
 use mathlib.Core.List.{List, [], _∷_, _++_}
 use native.Mathlib.Omega.{arith}
 use lib.Dec.{eqb, ltb}
-use lib.ListN.{length, getD, drop, take}
-use borrow.Author.Tests.{eq-eqb, ne-eqb, eqb-true, eqb-false, ltb-true}
+use lib.ListN.{getD}
+use borrow.Author.Tests.{eq-eqb, ne-eqb, eqb-true, ltb-true}
 use Rattle.basics.specs.Tests.{test, holds, fails}
 use Rattle.arrivals.specs.Order.{has, ahead}
+use Rattle.arrivals.specs.Listed.{has-behind}
 use Rattle.tables.specs.declared.Tables.{Tables}
 use Rattle.tables.specs.declared.Kind.{Kind}
 use Rattle.tables.specs.Access.{structureOf}
@@ -20,9 +21,6 @@ use Rattle.calls.specs.declared.Number.the-variants as number
 use Rattle.calls.specs.Calls.{unknown, isUnknown, rowOf}
 use Rattle.calls.specs.Laws.{unknown-numbers}
 use Rattle.refusals.specs.Refusals.{unknownCall, both, either, some, named, ofNamed, wrongFor, deadStructure, wrongKind, allAbove, rising, firstThat, early, late, codes, appliesTo, applies, refusal}
-
-has-behind : (a k : ℕ) (l : List ℕ) → has a l ≡ true → has a (k ∷ l) ≡ true
-has-behind a k l g = elim (test (eqb k a)) [ holds q ↦ rw q | fails q ↦ rw q g ]
 
 -- A list without 0 has none in front and none behind
 no-zero : (k : ℕ) (l : List ℕ) → has 0 (k ∷ l) ≡ false → k ≡ 0 → ⊥
@@ -58,7 +56,7 @@ none-before f (k ∷ l) (suc i) h =
 pub none-given : (f : ℕ → Bool) (l : List ℕ) → ((k : ℕ) → has k l ≡ true → f k ≡ false) → firstThat f l ≡ 0
 none-given f [] h = refl
 none-given f (k ∷ l) h =
-    rw (h k (rw (eq-eqb k k refl))) (none-given f l (λ j g. h j (has-behind j k l g)))
+    rw (h k (rw (eq-eqb k k refl))) (none-given f l (λ j g. h j (has-behind k j l g)))
 
 pub none-applies : (f : ℕ → Bool) (l : List ℕ) → has 0 l ≡ false → firstThat f l ≡ 0 → (k : ℕ) → has k l ≡ true → f k ≡ false
 none-applies f [] z e k h = absurd (true≢false (sym h))

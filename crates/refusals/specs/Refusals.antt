@@ -14,8 +14,6 @@ use Rattle.tables.specs.Numbers.{code, isLive, isSemaphore, isRing}
 use Rattle.tables.specs.Access.{processOf, structureOf, ringIn, parcelFor}
 use Rattle.tables.specs.Lines.{inLinesOf}
 use Rattle.records.specs.declared.Record.{Record}
-use Rattle.calls.specs.declared.Deed.{Deed}
-use Rattle.calls.specs.declared.Deed.the-variants as deeds
 use Rattle.calls.specs.declared.Row.{Row}
 use Rattle.calls.specs.declared.Number.{Number}
 use Rattle.calls.specs.declared.Number.the-variants as number

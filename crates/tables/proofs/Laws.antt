@@ -1,18 +1,17 @@
 -- What the loops over the order see, a line written to the front of zeros, and one entry anew.
-use Prim.Native.Nat.{ℕ, zero, suc, _+_, _-_, _%_, _≤_, _<_}
+use Prim.Native.Nat.{ℕ, suc, _+_, _-_, _%_, _≤_, _<_}
 use mathlib.Core.Path.{_≡_, refl, sym, ap, _∙_}
 use mathlib.Core.Bool.{Bool, true, false, cond, true≢false}
-use mathlib.Core.List.{List, [], _∷_, _++_, map, append-nil, append-assoc}
+use mathlib.Core.List.{List, [], _∷_, _++_, append-nil, append-assoc}
 use mathlib.Core.Logic.{_⊎_, ⊎-elim}
 use native.Mathlib.Omega.{arith}
 use native.Mathlib.Numerals.{add-one}
 use lib.Dec.{eqb, leb, ltb}
-use lib.ListN.{length, getD, set, take, drop, replicate, length-map, length-set, take-append-drop, List·getD-eq-default, drop-of-length-le}
-use lib.Seq.{set-out, drop-cons, take-suc-set, drop-set-lt, length-take-le, drop-drop}
-use borrow.Author.Tests.{eq-eqb, ne-eqb, eqb-true, eqb-false, leb-true, leb-false, ltb-false, lt-ltb, le-ltb}
+use lib.ListN.{length, getD, set, take, drop, replicate, length-set, take-append-drop, drop-of-length-le}
+use lib.Seq.{drop-cons, take-suc-set, drop-set-lt, length-take-le, drop-drop}
+use borrow.Author.Tests.{eqb-true, eqb-false, leb-true, leb-false, ltb-false, lt-ltb, le-ltb}
 use Rattle.arrivals.specs.Order.{keep, first}
 use Rattle.basics.specs.Tests.{test, holds, fails}
-use Rattle.basics.specs.Lists.{getD-any}
 use Rattle.tables.specs.declared.Process.{Process}
 use Rattle.tables.specs.declared.Place.{Place}
 use Rattle.tables.specs.declared.Place.the-variants.{Nowhere, Running, Ready, Parked, Waiting, Getting, Putting, Asleep}

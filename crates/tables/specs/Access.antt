@@ -1,7 +1,7 @@
 -- The tables' parts by their numbers, and the tables with one part changed. A number outside reads as nobody or nothing and changes nothing.
 use Prim.Native.Nat.{ℕ, _-_}
 use mathlib.Core.List.{List}
-use mathlib.Core.Bool.{Bool, true, false, cond}
+use mathlib.Core.Bool.{false, cond}
 use lib.Dec.{eqb}
 use lib.ListN.{getD, set, replicate}
 use Rattle.bay.specs.declared.Ring.{Ring}

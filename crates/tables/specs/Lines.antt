@@ -1,14 +1,14 @@
 -- The lines: each is a view of the one arrival order.
 use Prim.Native.Nat.{ℕ, suc, _-_}
 use mathlib.Core.List.{List, [], _∷_, _++_}
-use mathlib.Core.Bool.{Bool, true, false, cond}
+use mathlib.Core.Bool.{Bool, false, cond}
 use lib.Dec.{eqb, leb, ltb}
 use lib.ListN.{length, replicate}
 use Rattle.arrivals.specs.Order.{keep, first}
 use Rattle.tables.specs.declared.Tables.{Tables}
 use Rattle.tables.specs.declared.Process.{Process}
 use Rattle.tables.specs.declared.Place.{Place}
-use Rattle.tables.specs.declared.Place.the-variants.{Nowhere, Running, Ready, Parked, Waiting, Getting, Putting, Asleep}
+use Rattle.tables.specs.declared.Place.the-variants.{Ready, Parked}
 use Rattle.tables.specs.declared.Line.{Line}
 use Rattle.tables.specs.declared.Line.the-variants as lines
 use Rattle.tables.specs.Numbers.{code, spot}

@@ -49,8 +49,8 @@ returns-2 c =
 is-state-requires : tie.Need-is-state-requires
 is-state-requires c κs = search needs
 
-refusal-reply-requires : tie.Need-refusal-reply-requires
-refusal-reply-requires c κs = search needs
+not-sound-requires : tie.Need-not-sound-requires
+not-sound-requires c κs = search needs
 
 write-requires : tie.Need-write-requires
 write-requires c κs = search needs
@@ -64,7 +64,7 @@ same-length-2 c = search needs
 returns-3 : tie.Need-returns-3
 returns-3 c =
     no-state (c .before .before .before .before .before .before .before .before .before .before .before .before .before .args .state .now) (c .before .before .before .before .before .before .before .before .before .before .before .before .before .args .request .now) (c .before .before .before .before .before .before .before .before .before .before .before .before .before .args .answer .now) (c .before .before .before .before .before .before .before .before .before .if1 .left) (c .before .before .before .before .before .before .before .before .if2 .left)
-    (c .before .before .before .before .before .before .is-state .ensures) (c .before .before .before .before .before .if3 .taken) (c .before .before .before .refusal-reply .ensures) (c .before .before .write .ensures)
+    (c .before .before .before .before .before .before .is-state .ensures) (c .before .before .before .before .before .if3 .taken) (c .before .before .before .not-sound .ensures) (c .before .before .write .ensures)
 
 read-requires : tie.Need-read-requires
 read-requires c κs = search needs
@@ -72,8 +72,8 @@ read-requires c κs = search needs
 sound-requires : tie.Need-sound-requires
 sound-requires c κs = search needs
 
-refusal-reply-requires-2 : tie.Need-refusal-reply-requires-2
-refusal-reply-requires-2 c κs = search needs
+not-sound-requires-2 : tie.Need-not-sound-requires-2
+not-sound-requires-2 c κs = search needs
 
 write-requires-2 : tie.Need-write-requires-2
 write-requires-2 c κs = search needs
@@ -89,7 +89,7 @@ returns-4 c =
     no-sound (c .before .before .before .before .before .before .before .before .before .before .before .before .before .before .before .before .before .args .state .now) (c .before .before .before .before .before .before .before .before .before .before .before .before .before .before .before .before .before .args .request .now) (c .before .before .before .before .before .before .before .before .before .before .before .before .before .before .before .before .before .args .answer .now) (c .before .before .before .before .before .before .before .before .before .before .before .before .before .if1 .left) (c .before .before .before .before .before .before .before .before .before .before .before .before .if2 .left)
     (λ i. omega (arith, c .before .before .before .before .before .before .before .before .before .before .before .before .before .before .before .before .slice-known .given i))
     (c .before .before .before .before .before .before .before .before .before .before .is-state .ensures) (c .before .before .before .before .before .before .before .before .before .if3 .left) (c .before .before .before .before .before .before .before .read .ensures) (c .before .before .before .before .before .before .sound .ensures)
-    (c .before .before .before .before .before .if4 .taken) (c .before .before .before .refusal-reply2 .ensures) (c .before .before .write2 .ensures)
+    (c .before .before .before .before .before .if4 .taken) (c .before .before .before .not-sound2 .ensures) (c .before .before .write2 .ensures)
 
 read-requires-2 : tie.Need-read-requires-2
 read-requires-2 c κs = search needs
@@ -97,8 +97,8 @@ read-requires-2 c κs = search needs
 refusal-requires : tie.Need-refusal-requires
 refusal-requires c κs = search needs
 
-refusal-reply-requires-3 : tie.Need-refusal-reply-requires-3
-refusal-reply-requires-3 c κs = search needs
+refusal-reply-requires : tie.Need-refusal-reply-requires
+refusal-reply-requires c κs = search needs
 
 write-requires-3 : tie.Need-write-requires-3
 write-requires-3 c κs = search needs
@@ -118,7 +118,7 @@ returns-5 c =
     (λ i. omega (arith, c .before .before .before .before .before .before .before .before .before .before .before .before .before .before .before .before .before .before .before .slice-known .given i))
     (c .before .before .before .before .before .before .before .before .before .before .before .before .before .is-state .ensures) (c .before .before .before .before .before .before .before .before .before .before .before .before .if3 .left) (c .before .before .before .before .before .before .before .before .before .before .read .ensures) (c .before .before .before .before .before .before .before .before .before .sound .ensures)
     (c .before .before .before .before .before .before .before .before .if4 .left) (c .before .before .before .before .before .before .before .read2 .ensures) (c .before .before .before .before .before .before .refusal .ensures)
-    (c .before .before .before .before .before .if5 .taken) (c .before .before .before .refusal-reply3 .ensures) (c .before .before .write3 .ensures)
+    (c .before .before .before .before .before .if5 .taken) (c .before .before .before .refusal-reply .ensures) (c .before .before .write3 .ensures)
 
 row-of-requires : tie.Need-row-of-requires
 row-of-requires c κs = search needs
@@ -296,21 +296,21 @@ brombeertor-call-spec =
     returns
     returns-2
     is-state-requires
-    refusal-reply-requires
+    not-sound-requires
     write-requires
     same-length
     same-length-2
     returns-3
     read-requires
     sound-requires
-    refusal-reply-requires-2
+    not-sound-requires-2
     write-requires-2
     same-length-3
     same-length-4
     returns-4
     read-requires-2
     refusal-requires
-    refusal-reply-requires-3
+    refusal-reply-requires
     write-requires-3
     cast-result
     same-length-5

@@ -1,13 +1,11 @@
 use mathlib.Core.Logic.{⊎-elim}
 use Prim.Native.Nat.{_≤_, _-_}
-use mathlib.Core.Path.{_≡_, refl}
+use mathlib.Core.Path.{_≡_}
 use lib.ListN.{length, length-set}
 use native.Mathlib.Omega.{arith}
 use borrow.Author.Needs.{needs}
 use Rattle.panel.proofs.appended.Statement.{statement}
 use Rattle.panel.proofs.appended.Tie as tie
-use Rattle.panel.proofs.appended.Reads as reads
-use Rattle.panel.proofs.appended.Lts as lts
 
 abbrev Inv-loop : tie.InvT-loop
 Inv-loop out₀ at line n end₀ i₀ out end i = (i ≤ 40) × (length out ≡ length out₀)

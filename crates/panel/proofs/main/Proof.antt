@@ -1,19 +1,10 @@
-use Prim.Native.Nat.{_≤_, _-_}
-use mathlib.Core.Path.{_≡_, refl, sym}
+use mathlib.Core.Path.{_≡_, sym}
 use lib.Seq.{length-take-le}
-use lib.ListN.{length, length-set}
+use lib.ListN.{length}
 use native.Mathlib.Omega.{arith}
 use borrow.Author.Needs.{needs}
 use Rattle.panel.proofs.main.Statement.{statement}
 use Rattle.panel.proofs.main.Tie as tie
-use Rattle.panel.proofs.main.Reads as reads
-use Rattle.panel.proofs.main.Lts as lts
-use Rattle.io.proofs.read_full.Reads as read-full-reads
-use Rattle.io.proofs.write_all.Reads as write-all-reads
-use Rattle.kernel.proofs.brombeertor_fresh.Reads as brombeertor-fresh-reads
-use Rattle.panel.proofs.least.Reads as least-reads
-use Rattle.panel.proofs.left_over.Reads as left-over-reads
-use Rattle.panel.proofs.played.Reads as played-reads
 
 abbrev Inv-loop : tie.InvT-loop
 Inv-loop state₀ input₀ out₀ rounds₀ state input out rounds = (length state ≡ 4569) × (length input ≡ 65520) × (length out ≡ 36400)

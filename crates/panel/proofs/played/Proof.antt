@@ -1,15 +1,9 @@
 use Prim.Native.Nat.{_≤_, _-_}
-use mathlib.Core.Path.{_≡_, refl}
-use lib.ListN.{length, length-set}
-use native.Mathlib.Omega.{arith}
+use mathlib.Core.Path.{_≡_}
+use lib.ListN.{length}
 use borrow.Author.Needs.{needs}
 use Rattle.panel.proofs.played.Statement.{statement}
 use Rattle.panel.proofs.played.Tie as tie
-use Rattle.panel.proofs.played.Reads as reads
-use Rattle.panel.proofs.played.Lts as lts
-use Rattle.kernel.proofs.brombeertor_call.Reads as brombeertor-call-reads
-use Rattle.listing.proofs.line_for.Reads as line-for-reads
-use Rattle.panel.proofs.appended.Reads as appended-reads
 
 abbrev Inv-loop : tie.InvT-loop
 Inv-loop state₀ input out₀ reply₀ end₀ i₀ state out reply end i = (i ≤ length input) × (length state ≡ length state₀) × (length out ≡ length out₀) × (length reply ≡ 72)

@@ -6,7 +6,6 @@ use lib.ListN.{drop, length}
 use borrow.Author.Needs.{needs}
 use native.Mathlib.Omega.{arith}
 use Rattle.arrivals.specs.Order.{keep}
-use Rattle.tables.specs.declared.Line.the-variants as lines
 use Rattle.tables.specs.Lines.{standing, stands, line}
 use Rattle.basics.specs.Lists.{len-map}
 use Rattle.tables.proofs.Laws.{nowhere, Left, turn, keep-end, Front, written, filled}

@@ -1,13 +1,9 @@
 use Prim.Native.Nat.{_≤_, _-_}
-use mathlib.Core.Path.{_≡_, refl}
+use mathlib.Core.Path.{_≡_}
 use lib.ListN.{length}
-use native.Mathlib.Omega.{arith}
 use borrow.Author.Needs.{needs}
 use Rattle.vectors.proofs.says.Statement.{statement}
 use Rattle.vectors.proofs.says.Tie as tie
-use Rattle.vectors.proofs.says.Reads as reads
-use Rattle.vectors.proofs.says.Lts as lts
-use Rattle.io.proofs.read_full.Reads as read-full-reads
 
 abbrev Inv-loop : tie.InvT-loop
 Inv-loop fd text next₀ i₀ next i = (i ≤ length text) × (length next ≡ 1)

@@ -1,22 +1,9 @@
 use Prim.Native.Nat.{_≤_, _-_}
-use mathlib.Core.Path.{_≡_, refl}
+use mathlib.Core.Path.{_≡_}
 use lib.ListN.{length}
-use native.Mathlib.Omega.{arith}
 use borrow.Author.Needs.{needs}
 use Rattle.vectors.proofs.stream.Statement.{statement}
 use Rattle.vectors.proofs.stream.Tie as tie
-use Rattle.vectors.proofs.stream.Reads as reads
-use Rattle.vectors.proofs.stream.Lts as lts
-use Rattle.io.proofs.read_full.Reads as read-full-reads
-use Rattle.io.proofs.write_all.Reads as write-all-reads
-use Rattle.kernel.proofs.brombeertor_fresh.Reads as brombeertor-fresh-reads
-use Rattle.libc.proofs.close.Reads as close-reads
-use Rattle.os.proofs.open_read.Reads as open-read-reads
-use Rattle.vectors.proofs.ended.Reads as ended-reads
-use Rattle.vectors.proofs.one_unless.Reads as one-unless-reads
-use Rattle.vectors.proofs.print.Reads as print-reads
-use Rattle.vectors.proofs.says_short.Reads as says-short-reads
-use Rattle.vectors.proofs.wrong.Reads as wrong-reads
 
 abbrev Inv-loop : tie.InvT-loop
 Inv-loop name requests replies lines asked answered listed state₀ bad₀ count₀ over₀ t17 state bad count over = (length state ≡ 4569) × (count ≤ 100000) × (bad ≤ count)

@@ -4,12 +4,6 @@ use Rattle.listing.specs.Laws.{lined-within}
 use borrow.Author.Needs.{needs}
 use Rattle.vectors.proofs.wrong.Statement.{statement}
 use Rattle.vectors.proofs.wrong.Tie as tie
-use Rattle.vectors.proofs.wrong.Reads as reads
-use Rattle.vectors.proofs.wrong.Lts as lts
-use Rattle.kernel.proofs.brombeertor_call.Reads as brombeertor-call-reads
-use Rattle.listing.proofs.line_for.Reads as line-for-reads
-use Rattle.vectors.proofs.one_unless.Reads as one-unless-reads
-use Rattle.vectors.proofs.says.Reads as says-reads
 
 -- src/main.rt:50:46
 slice-aggregate-brombeertor-call : tie.Need-slice-aggregate-brombeertor-call
