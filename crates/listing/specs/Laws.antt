@@ -8,7 +8,7 @@ use borrow.Author.Tests.{lt-ltb, le-ltb, ltb-false}
 use lib.Dec.{ltb}
 use lib.ListN.{length, length-append}
 use lib.Seq.{set-append-seam}
-use Rattle.basics.specs.Tests.{test, holds, fails}
+use Rattle.basics.specs.Tests.{Test, test, holds, fails}
 use Rattle.records.specs.declared.Record.{Record}
 use Rattle.records.specs.Records.{reply}
 use Rattle.listing.specs.declared.Line.{Line}

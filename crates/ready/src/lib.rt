@@ -1,5 +1,4 @@
 // The ready line: who joins it, who is released into it, and who of it runs.
-use tables::Line;
 use tables::Place;
 use tables::Process;
 use tables::Tables;
@@ -11,7 +10,6 @@ ghost use Rattle.ready.specs.Ready.{
   runnerJoins,
   releasedTo,
   released,
-  letThrough,
   releasedAll,
   runs,
   goes,
@@ -84,13 +82,6 @@ pub fn released(t: Tables, p: u8) -> Tables
 {
     let process = tables::process_at(t, p);
     joins(t, p, released_to(process.suspended))
-}
-
-// The head of a line is let through.
-pub fn let_through(t: Tables, which: Line) -> Tables
-    ensures { λ r. ⌜ r ≡ letThrough which t ⌝ }
-{
-    released(t, tables::head_of(t, which))
 }
 
 // These processes are released, one after the other.

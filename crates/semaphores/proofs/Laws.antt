@@ -5,21 +5,27 @@ use mathlib.Core.Bool.{Bool, true, false, cond, true≢false}
 use mathlib.Core.List.{List, [], _∷_, append-nil}
 use native.Mathlib.Numerals.{add-one}
 use native.Mathlib.Omega.{arith}
-use lib.Dec.{eqb}
+use lib.Dec.{eqb, ltb}
 use lib.ListN.{length, getD, drop, replicate}
 use lib.Seq.{drop-cons}
-use borrow.Author.Tests.{eqb-true}
+use borrow.Author.Tests.{eqb-true, eq-eqb, ne-eqb, lt-ltb}
 use Rattle.basics.specs.Tests.{test, holds, fails}
-use Rattle.arrivals.specs.Order.{has, keep}
+use Rattle.arrivals.specs.Order.{first, has, keep}
 use Rattle.arrivals.specs.Views.{keep-append, keep-same, in-line}
 use Rattle.tables.specs.declared.Tables.{Tables}
 use Rattle.tables.specs.declared.Line.{Line}
+use Rattle.tables.specs.declared.Line.the-variants.{Semaphore}
+use Rattle.tables.specs.declared.Kind.{Kind}
+use Rattle.tables.specs.declared.Kind.the-variants.{Free, Binary, Counting, Ring}
+use Rattle.tables.specs.Numbers.{isSemaphore}
+use Rattle.answers.specs.declared.Outcome.the-variants.{Done, No}
+use Rattle.answers.specs.Answers.{plain, step}
 use Rattle.tables.specs.Access.{nobody}
 use Rattle.tables.specs.Lines.{standing, line, padded}
 use Rattle.tables.specs.Laws.{numbered-zero}
 use Rattle.tables.proofs.Laws.{nowhere}
-use Rattle.ready.specs.Ready.{joins, released, releasedAll}
-use Rattle.semaphores.specs.Semaphores.{somebody}
+use Rattle.ready.specs.Ready.{joins, released, letThrough, releasedAll}
+use Rattle.semaphores.specs.Semaphores.{kindOf, withKind, value, lowered, raised, somebody, hasLine, waitedAt, waited, conditionallyWaited, signalledAt, signalled, conditionallySignalled}
 
 -- To release nobody changes nothing
 nobody-released : (p : ℕ) (t : Tables) → eqb p 0 ≡ true → released p t ≡ t
@@ -72,3 +78,51 @@ pub counted : (f : ℕ → Bool) (l : List ℕ) (i : ℕ) → i < length l
 counted f l i h =
     rw (add-one, drop-cons l i 0)
     (elim (test (f (getD l i 0))) [ holds e ↦ rw e (omega arith) | fails e ↦ rw e (omega arith) ])
+
+-- ---- a signal, by the head of the line
+
+module _ (n : ℕ) (t : Tables) {p : ℕ} (head : p ≡ first (line (Semaphore n) t)) where
+  pub raises : (kind : Kind) → p ≡ 0 → withKind n (raised kind) t ≡ signalledAt n t kind
+  unfolding signalledAt hasLine
+  raises kind z = rw (eq-eqb (first (line (Semaphore n) t)) 0 (sym head ∙ z))
+
+  pub lets-through : (kind : Kind) → (p ≡ 0 → ⊥) → released p t ≡ signalledAt n t kind
+  unfolding signalledAt hasLine letThrough
+  lets-through kind h = rw (ne-eqb (first (line (Semaphore n) t)) 0 (λ z. h (head ∙ z))) (ap (λ x. released x t) head)
+
+  pub no-line : p ≡ 0 → step t (plain No) ≡ conditionallySignalled n t
+  unfolding conditionallySignalled hasLine
+  no-line z = rw (eq-eqb (first (line (Semaphore n) t)) 0 (sym head ∙ z))
+
+  pub no-semaphore : (p ≡ 0 → ⊥) → isSemaphore (kindOf n t) ≡ false → step t (plain No) ≡ conditionallySignalled n t
+  unfolding conditionallySignalled signalled hasLine
+  no-semaphore h e = rw (ne-eqb (first (line (Semaphore n) t)) 0 (λ z. h (head ∙ z)), e)
+
+  pub lets-its-head : (p ≡ 0 → ⊥) → isSemaphore (kindOf n t) ≡ true → step (released p t) (plain Done) ≡ conditionallySignalled n t
+  unfolding conditionallySignalled signalled hasLine
+  lets-its-head h e =
+      rw (ne-eqb (first (line (Semaphore n) t)) 0 (λ z. h (head ∙ z)), e) (ap (λ u. step u (plain Done)) (lets-through (kindOf n t) h))
+
+-- ---- a conditional wait, by the value
+
+-- What has a value above 0 is a semaphore
+valued : (k : Kind) → ltb 0 (value k) ≡ true → isSemaphore k ≡ true
+valued Free e = absurd (true≢false (sym e))
+valued (Binary v) e = refl
+valued (Counting v) e = refl
+valued (Ring b) e = absurd (true≢false (sym e))
+
+module _ (n : ℕ) (t : Tables) where
+  pub nobody-asks : t .running ≡ 0 → step t (plain No) ≡ conditionallyWaited n t
+  unfolding conditionallyWaited waited
+  nobody-asks e = elim (test (ltb 0 (value (kindOf n t)))) [ holds q ↦ rw (q, eq-eqb (t .running) 0 e) | fails q ↦ rw q ]
+
+  pub none-left : value (kindOf n t) ≡ 0 → step t (plain No) ≡ conditionallyWaited n t
+  unfolding conditionallyWaited
+  none-left z = rw z
+
+  pub one-falls : (t .running ≡ 0 → ⊥) → (value (kindOf n t) ≡ 0 → ⊥) → step (withKind n (lowered (kindOf n t)) t) (plain Done) ≡ conditionallyWaited n t
+  unfolding conditionallyWaited waited waitedAt
+  one-falls h z =
+      let q = lt-ltb 0 (value (kindOf n t)) (omega (arith, z)) in
+      rw (q, ne-eqb (t .running) 0 h, valued (kindOf n t) q)

@@ -16,7 +16,6 @@ ghost use Rattle.semaphores.specs.Semaphores.{
   value,
   lowered,
   raised,
-  hasLine,
   somebody,
   waitedAt,
   waited,
@@ -94,13 +93,6 @@ fn raised(kind: Kind) -> Kind
     }
 }
 
-// Is there a line at semaphore n?
-fn has_line(t: Tables, n: u8) -> bool
-    ensures { λ r. ⌜ r ≡ hasLine n t ⌝ }
-{
-    tables::head_of(t, Line::Semaphore(n)) != 0
-}
-
 // How many of these are somebody.
 fn count_of(members: [u8; 32]) -> u8
     ensures { λ r. ⌜ r ≡ length (keep somebody members) ⌝ }
@@ -144,20 +136,25 @@ pub fn waited(t: Tables, n: u8) -> Step
 pub fn conditionally_waited(t: Tables, n: u8) -> Step
     ensures { λ r. ⌜ r ≡ conditionallyWaited n t ⌝ }
 {
-    if 0 < value_of(kind_of(t, n)) {
-        return waited(t, n);
+    if t.running == 0 {
+        return answers::plainly(t, Outcome::No);
     }
-    answers::plainly(t, Outcome::No)
+    let kind = kind_of(t, n);
+    if value_of(kind) == 0 {
+        return answers::plainly(t, Outcome::No);
+    }
+    answers::plainly(with_kind(t, n, lowered(kind)), Outcome::Done)
 }
 
 // With a line its head is released and the value stays; with none the value rises.
 fn signalled_at(t: Tables, n: u8, kind: Kind) -> Tables
     ensures { λ r. ⌜ r ≡ signalledAt n t kind ⌝ }
 {
-    if has_line(t, n) {
-        return ready::let_through(t, Line::Semaphore(n));
+    let p = tables::head_of(t, Line::Semaphore(n));
+    if p == 0 {
+        return with_kind(t, n, raised(kind));
     }
-    with_kind(t, n, raised(kind))
+    ready::released(t, p)
 }
 
 // Signal.
@@ -175,8 +172,12 @@ pub fn signalled(t: Tables, n: u8) -> Step
 pub fn conditionally_signalled(t: Tables, n: u8) -> Step
     ensures { λ r. ⌜ r ≡ conditionallySignalled n t ⌝ }
 {
-    if has_line(t, n) {
-        return signalled(t, n);
+    let p = tables::head_of(t, Line::Semaphore(n));
+    if p == 0 {
+        return answers::plainly(t, Outcome::No);
+    }
+    if tables::is_semaphore(kind_of(t, n)) {
+        return answers::plainly(ready::released(t, p), Outcome::Done);
     }
     answers::plainly(t, Outcome::No)
 }

@@ -1,5 +1,5 @@
 -- `listing::push_decimal` meets its contract: below ten one digit, else the digits of the tenth part and one more. The measure is the number.
-use Prim.Native.Nat.{ℕ}
+use Prim.Native.Nat.{ℕ, _<_}
 use native.Mathlib.Omega.{arith}
 use borrow.Author.Needs.{needs}
 use Rattle.listing.specs.Listing.{written}

@@ -1,6 +1,7 @@
 -- `listing::line_of` meets its contract: six fields one behind the other, which by the ranges of their types have room.
 use borrow.Author.Needs.{needs}
 use Prim.Native.Nat.{_≤_}
+use mathlib.Core.List.{[]}
 use lib.ListN.{length}
 use Rattle.listing.specs.Listing.{room, lineOf}
 use Rattle.listing.specs.Laws.{written-append, written-whole, line-long}
