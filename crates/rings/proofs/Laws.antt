@@ -10,7 +10,8 @@ use Rattle.arrivals.specs.Order.{first, keep}
 use Rattle.bay.specs.declared.Holding.the-variants.{Bytes}
 use Rattle.bay.specs.declared.Parcel.{Parcel}
 use Rattle.bay.specs.declared.Moved.{Moved}
-use Rattle.bay.specs.Bay.{parcelOf, emptyParcel, getOf, zeros}
+use Rattle.bay.specs.declared.Ring.{Ring}
+use Rattle.bay.specs.Bay.{parcelOf, emptyParcel, getOf, resetOf, zeros}
 use Rattle.tables.specs.declared.Tables.{Tables}
 use Rattle.tables.specs.declared.Place.{Place}
 use Rattle.tables.specs.declared.Place.the-variants.{Nowhere, Running, Ready, Parked, Waiting, Getting, Putting, Asleep}
@@ -19,8 +20,9 @@ use Rattle.tables.specs.Access.{numbered, nobody, processOf, ringIn, withProces
 use Rattle.tables.specs.Lines.{stands, standing, line, waitsAt, waitingAt, inLinesOf}
 use Rattle.ready.specs.Ready.{withPlace, joins, runnerJoins}
 use Rattle.rings.specs.Serving.{lengthsOf, lengthFor, getterGoes, putterGoes, who, inTurn, service, services, turns, entered, served}
-use Rattle.rings.specs.Rings.{putThrough, putWaits, gotFrom, gotThrough}
+use Rattle.rings.specs.Rings.{putThrough, putWaits, gotFrom, gotThrough, resetIn}
 use Rattle.answers.specs.declared.Outcome.the-variants.{Done, Waits}
+use Rattle.answers.specs.declared.Answer.{Answer}
 use Rattle.answers.specs.declared.Step.{Step}
 use Rattle.answers.specs.Answers.{answer, plain, step}
 use Rattle.rings.specs.Laws.{getter-first, putter-first, nobody-first}
@@ -180,20 +182,24 @@ none-waits n b t u k o p e z = none-waiting n b u (rw (o, p) (sym e ∙ z))
 
 -- ---- what a transfer leaves, once the lines are served
 
--- Those whom a plan has chosen by the rule are served
-pub by-plan : (n b : ℕ) (l : List ℕ) (u s : Tables) → s ≡ services b l u → l ≡ turns n b u → s ≡ served n b u
+-- The step of a service, where the plan's are those of the rule, is that of the lines served
+pub step-served : (n b : ℕ) (l : List ℕ) (u : Tables) (a d : Answer) (r : Step) → r ≡ step (services b l u) a → l ≡ turns n b u → a ≡ d → r ≡ step (served n b u) d
 unfolding served
-by-plan n b l u s e f = e ∙ rw f
+step-served n b l u a d r e f g = e ∙ rw (f, g)
 
-pub put-done : (n b l : ℕ) (bytes : List ℕ) (t u s : Tables) (x : Parcel) (r : Step) → x ≡ parcelOf (take l bytes) → u ≡ entered b x l t → s ≡ served n b u → r ≡ step s (plain Done)
+pub put-done : (n b l : ℕ) (bytes : List ℕ) (t u : Tables) (x : Parcel) (r : Step) → x ≡ parcelOf (take l bytes) → u ≡ entered b x l t → r ≡ step (served n b u) (plain Done)
     → r ≡ putThrough n b l bytes t
 unfolding putThrough
-put-done n b l bytes t u s x r e f h k = rw (k, h, f, e)
+put-done n b l bytes t u x r e f k = rw (k, f, e)
 
-pub get-done : (n b l : ℕ) (t u s : Tables) (g : Moved) → g ≡ getOf (ringIn t b) emptyParcel 0 l → u ≡ withRing t b (g .ring) → s ≡ served n b u
-    → step s (answer Done 0 l 0 (g .parcel .bytes)) ≡ gotThrough n b l t
+pub get-done : (n b l : ℕ) (t u : Tables) (g : Moved) (r : Step) → g ≡ getOf (ringIn t b) emptyParcel 0 l → u ≡ withRing t b (g .ring)
+    → r ≡ step (served n b u) (answer Done 0 l 0 (g .parcel .bytes)) → r ≡ gotThrough n b l t
 unfolding gotThrough gotFrom
-get-done n b l t u s g e f h = rw (h, f, e)
+get-done n b l t u g r e f h = rw (h, f, e)
+
+pub reset-done : (n b : ℕ) (t u : Tables) (x y : Ring) (r : Step) → x ≡ ringIn t b → y ≡ resetOf x → u ≡ withRing t b y → r ≡ step (served n b u) (plain Done) → r ≡ resetIn n b t
+unfolding resetIn
+reset-done n b t u x y r e f g h = rw (h, g, f, e)
 
 -- The runner's parcel may be filled once it has joined
 parcel-joins : (place : Place) (x : Parcel) (t : Tables) → withParcel (runnerJoins place t) (t .running) x ≡ runnerJoins place (withParcel t (t .running) x)

@@ -33,7 +33,6 @@ ghost use Rattle.rings.specs.Serving.{
   atRing,
   exchanged,
   services,
-  served,
 };
 ghost use Rattle.rings.specs.Rings.{
   allowed,
@@ -294,14 +293,15 @@ fn exchanged(ring: Ring, parcel: Parcel, place: Place) -> Moved
     }
 }
 
-// Those whom the plan has chosen are served, one after the other: transferred and released.
-fn services(t: Tables, b: u8, plan: Plan) -> Tables
+// Those whom the plan has chosen are served, one after the other: transferred and released. The answer is the caller's: tables
+// that went to it alone would be copied once more.
+fn services(t: Tables, b: u8, plan: Plan, answer: Answer) -> Step
     requires { ⌜ (plan .getter ≤ 32) × (plan .putter ≤ 32) ⌝ }
-    ensures { λ r. ⌜ r ≡ services b (chosen plan) t ⌝ }
+    ensures { λ r. ⌜ r ≡ step (services b (chosen plan) t) answer ⌝ }
 {
     let count = plan.getter as usize + plan.putter as usize;
     if count == 0 {
-        return t;
+        return Step { tables: t, answer };
     }
     let mut ring = tables::ring_in(t, b);
     let mut order = t.order;
@@ -331,14 +331,11 @@ fn services(t: Tables, b: u8, plan: Plan) -> Tables
     next.order = order;
     next.processes = processes;
     next.parcels = parcels;
-    tables::with_ring(next, b, ring)
-}
-
-// The lines of ring n, which lies in bay b, are served.
-pub fn served(t: Tables, n: u8, b: u8) -> Tables
-    ensures { λ r. ⌜ r ≡ served n b t ⌝ }
-{
-    services(t, b, turns(t, n, b))
+    let last = tables::with_ring(next, b, ring);
+    Step {
+        tables: last,
+        answer,
+    }
 }
 
 // The parcel of the first l of these bytes.
@@ -455,7 +452,8 @@ fn put_through(t: Tables, n: u8, b: u8, l: u8, bytes: [u8; 64]) -> Step
     if tables::in_lines_of(t, n) == 0 {
         return answers::plainly(next, Outcome::Done);
     }
-    answers::plainly(services(next, b, turns(next, n, b)), Outcome::Done)
+    let done = answers::with_numbers(Outcome::Done, 0, 0, 0);
+    services(next, b, turns(next, n, b), done)
 }
 
 // The caller joins the putters, its bytes in its parcel.
@@ -516,10 +514,7 @@ fn got_through(t: Tables, n: u8, b: u8, l: u8) -> Step
             answer: answer,
         };
     }
-    Step {
-        tables: services(next, b, turns(next, n, b)),
-        answer: answer,
-    }
+    services(next, b, turns(next, n, b), answer)
 }
 
 // The caller joins the getters.
@@ -549,14 +544,17 @@ pub fn got(t: Tables, n: u8, l: u8, waits: bool) -> Step
     }
 }
 
-// The ring in bay b throws its held bytes away, then serves.
+// The ring in bay b throws its held bytes away, then serves. With nobody in the lines that is all.
 fn reset_in(t: Tables, n: u8, b: u8) -> Step
     ensures { λ r. ⌜ r ≡ resetIn n b t ⌝ }
 {
     let ring = tables::ring_in(t, b);
     let thrown = tables::with_ring(t, b, bay::reset(ring));
-    let done = served(thrown, n, b);
-    answers::plainly(done, Outcome::Done)
+    if tables::in_lines_of(t, n) == 0 {
+        return answers::plainly(thrown, Outcome::Done);
+    }
+    let done = answers::with_numbers(Outcome::Done, 0, 0, 0);
+    services(thrown, b, turns(thrown, n, b), done)
 }
 
 // Call 22, reset ring.
