@@ -27,7 +27,8 @@ use Rattle.layout.specs.Layout.{encode, decode, isState, controlTo, bytesTo}
 use Rattle.layout.specs.Laws.{isState-true, isState-false, decode-typed, same-tables, control-written, all-written}
 use Rattle.sound.specs.Tested.{soundB}
 use Rattle.sound.specs.Decided as decided
-use Rattle.kernel.specs.Called.{Holds, Lengths, refusalReply, stored, Called, lengthWrong, notSound, refused, done}
+use Rattle.kernel.specs.Called.{Holds, Lengths, refusalReply, Called, lengthWrong, notSound, refused, done}
+use Rattle.kernel.specs.Stored.{stored}
 
 -- A list of which the first i are zero has its length
 pub filled-length : (i : ℕ) (s : List ℕ) → i ≤ length s → length (replicate i 0 ++ drop i s) ≡ length s

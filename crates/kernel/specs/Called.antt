@@ -1,7 +1,7 @@
 -- What a call does to the three lent buffers, in document 01's words: a case for each outcome.
 use Prim.Native.Nat.{ℕ}
 use mathlib.Core.Path.{_≡_}
-use mathlib.Core.Bool.{Bool, cond}
+use mathlib.Core.Bool.{cond}
 use mathlib.Core.List.{List}
 use lib.Dec.{eqb}
 use lib.ListN.{length, replicate}
@@ -11,7 +11,7 @@ use Rattle.records.specs.Records.{recordLength, recordOf, bytesOf, reply}
 use Rattle.refusals.specs.Refusals.{refusal}
 use Rattle.steps.specs.Steps.{stepped}
 use Rattle.layout.specs.Typed.{Typed}
-use Rattle.layout.specs.Layout.{stateLength, encode, controlTo, bytesTo}
+use Rattle.layout.specs.Layout.{stateLength, encode}
 use Rattle.sound.specs.Sound.{Sound}
 
 -- The bytes s are the sound state t
@@ -28,12 +28,6 @@ pub record Lengths (q p : List ℕ) : Type 0 where
 -- The reply to a refusal: the code, the running process, and zeros
 abbrev pub refusalReply : ℕ → ℕ → Record
 refusalReply code running = reply code running 0 0 0 (replicate 64 0)
-
--- What of the tables u is written over the bytes s: the control part, and what rings and parcels hold where a deed moved bytes
-unfoldable pub stored : Bool → List ℕ → Tables → List ℕ
-stored moves s u =
-    let control = controlTo s (u .running) (u .order) (u .processes) (u .structures) in
-    cond moves (bytesTo control (u .rings) (u .parcels)) control
 
 -- State s, request q and reply buffer p go in; the code, state s′ and reply buffer p′ come out
 pub data Called (s q p : List ℕ) (code : ℕ) (s′ p′ : List ℕ) : Type 0 where

@@ -10,7 +10,8 @@ ghost use Rattle.records.specs.Records.{reply, writtenTo};
 ghost use Rattle.answers.specs.Answers.{outcomeNumber};
 ghost use Rattle.layout.specs.Typed.{Typed};
 ghost use Rattle.steps.specs.Steps.{replied};
-ghost use Rattle.kernel.specs.Called.{Called, freshCode, freshState, refusalReply, stored};
+ghost use Rattle.kernel.specs.Called.{Called, freshCode, freshState, refusalReply};
+ghost use Rattle.kernel.specs.Stored.{stored};
 
 // How many bytes a state has.
 #[no_mangle]

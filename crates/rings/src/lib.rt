@@ -460,15 +460,11 @@ fn put_through(t: Tables, n: u8, b: u8, l: u8, bytes: [u8; 64]) -> Step
 fn put_waits(t: Tables, n: u8, l: u8, bytes: [u8; 64]) -> Step
     ensures { λ r. ⌜ r ≡ putWaits n l bytes t ⌝ }
 {
-    let p = t.running;
-    let mut next = ready::runner_joins(t, Place::Putting(n, l));
-    if 1 <= p {
-        if p <= 32 {
-            let i = (p - 1) as usize;
-            next.parcels[i] = parcel_of(bytes, l);
-        }
-    }
-    answers::plainly(next, Outcome::Waits)
+    let next = ready::runner_joins(t, Place::Putting(n, l));
+    answers::plainly(
+        tables::with_parcel(next, t.running, parcel_of(bytes, l)),
+        Outcome::Waits,
+    )
 }
 
 // Call 18, put, or call 19, conditional put, which does not wait.
