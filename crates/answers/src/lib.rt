@@ -1,11 +1,13 @@
 // What a step gives: the tables after it, and the answer.
+#![tactic(auto)]
+
 ghost use Rattle.std.specs.Prelude.{◌≡◌, replicate};
 ghost use Rattle.answers.specs.Answers.{answer, plain, step, outcome_number};
 
 use tables::Tables;
 
 // Done, not performed, or the caller now waits or sleeps.
-#[derive(Drop)]
+#[derive(Clone, Copy)]
 pub enum Outcome {
     Done,
     No,
@@ -13,7 +15,7 @@ pub enum Outcome {
 }
 
 // An answer: the outcome, and the reply's number N, small field L, amount M and data.
-#[derive(Drop)]
+#[derive(Clone, Copy)]
 pub struct Answer {
     pub outcome: Outcome,
     pub n: u8,
@@ -23,7 +25,7 @@ pub struct Answer {
 }
 
 // The tables after a step, and its answer.
-#[derive(Drop)]
+#[derive(Clone, Copy)]
 pub struct Step {
     pub tables: Tables,
     pub answer: Answer,

@@ -1,5 +1,7 @@
 // The arrival order: the numbers of all live processes in the order in which they last joined a line, behind a zero for
 // each free place. Every line of the panel is a view of it.
+#![tactic(auto)]
+
 ghost use Rattle.std.specs.Prelude.{◌<◌, ◌≡◌, [], ◌∷◌, ◌++◌};
 ghost use Rattle.arrivals.specs.Order.{ahead, cut, joined, moved_last, deleted};
 

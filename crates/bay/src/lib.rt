@@ -1,24 +1,26 @@
 // The ring bays and the parcels: a ring takes bytes out of a parcel and gives bytes into one.
+#![tactic(auto)]
+
 ghost use Rattle.std.specs.Prelude.{◌≡◌, []};
 ghost use Rattle.bay.specs.Round.{going_round};
 ghost use Rattle.bay.specs.Bay.{empty_bay, in_range, put_fits, get_fits, put_of, get_of, reset_of, empty_parcel, ring_of};
 
 // What a parcel holds: nothing, or so many bytes.
-#[derive(Drop)]
+#[derive(Clone, Copy)]
 pub enum Holding {
     Nothing,
     Bytes(u8),
 }
 
 // A process's parcel: the bytes that wait to enter a ring, or to be collected. The rest is zero.
-#[derive(Drop)]
+#[derive(Clone, Copy)]
 pub struct Parcel {
     pub bytes: [u8; 64],
     pub holds: Holding,
 }
 
 // A ring in its bay, a true circle of the bay's first `size` bytes: `held` bytes from `start` on, round the end.
-#[derive(Drop)]
+#[derive(Clone, Copy)]
 pub struct Ring {
     pub bytes: [u8; 256],
     pub start: u16,
@@ -27,7 +29,7 @@ pub struct Ring {
 }
 
 // What a get leaves: the ring and the parcel.
-#[derive(Drop)]
+#[derive(Clone, Copy)]
 pub struct Moved {
     pub ring: Ring,
     pub parcel: Parcel,

@@ -1,4 +1,6 @@
 // The call table: what each request is, who may make it, and what each of its fields must be.
+#![tactic(auto)]
+
 ghost use Rattle.std.specs.Prelude.{◌≡◌};
 ghost use Rattle.calls.specs.Calls.{
   uses_nothing,
@@ -13,7 +15,7 @@ ghost use Rattle.calls.specs.Calls.{
 };
 
 // What a request asks for.
-#[derive(Drop)]
+#[derive(Clone, Copy)]
 pub enum Deed {
     Unknown,
     Tick,
@@ -42,7 +44,7 @@ pub enum Deed {
 }
 
 // Who may make a request: P a process only, B the board only, E either. An unknown request nobody may make.
-#[derive(Drop)]
+#[derive(Clone, Copy)]
 pub enum Callers {
     Nobody,
     Process,
@@ -51,7 +53,7 @@ pub enum Callers {
 }
 
 // What the number N is.
-#[derive(Drop)]
+#[derive(Clone, Copy)]
 pub enum Number {
     Unused,
     Process,
@@ -61,7 +63,7 @@ pub enum Number {
 }
 
 // What the small field L is.
-#[derive(Drop)]
+#[derive(Clone, Copy)]
 pub enum Small {
     Unused,
     Priority,
@@ -70,7 +72,7 @@ pub enum Small {
 }
 
 // What the amount M is; a start value or size goes by the kind in L.
-#[derive(Drop)]
+#[derive(Clone, Copy)]
 pub enum Amount {
     Unused,
     Milliseconds,
@@ -78,14 +80,14 @@ pub enum Amount {
 }
 
 // What the data are: unused, or as many bytes as the length in L says.
-#[derive(Drop)]
+#[derive(Clone, Copy)]
 pub enum Data {
     Unused,
     UpToLength,
 }
 
 // A line of the call table.
-#[derive(Drop)]
+#[derive(Clone, Copy)]
 pub struct Row {
     pub deed: Deed,
     pub callers: Callers,

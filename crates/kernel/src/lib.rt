@@ -1,4 +1,6 @@
 // What the board calls: three functions on buffers that it lends.
+#![tactic(auto)]
+
 ghost use Rattle.std.specs.Prelude.{◌≡◌};
 ghost use Rattle.layout.specs.Layout.{state_length};
 ghost use Rattle.records.specs.Records.{reply, written_to};

@@ -1,4 +1,6 @@
 // The state's bytes: tables to bytes and back. docs/LAYOUT.md lists every field.
+#![tactic(auto)]
+
 ghost use Rattle.std.specs.Prelude.{◌≡◌, [], ◌∷◌, ◌++◌, ◌+◌, ◌≤◌, length};
 ghost use Rattle.tables.specs.Numbers.{amount};
 ghost use Rattle.records.specs.Records.{number, low_first};

@@ -1,4 +1,6 @@
 // Listing: the text that the program panel prints.
+#![tactic(auto)]
+
 ghost use Rattle.std.specs.Prelude.{◌≡◌, []};
 ghost use Rattle.listing.specs.Listing.{decimal, field, line_of, lined, pushed, written};
 ghost use Rattle.records.specs.Records.{record_at};
@@ -9,7 +11,7 @@ use records::Record;
 pub const ROOM: usize = 40;
 
 // A line of text: its bytes, with zeros behind them, and how many they are.
-#[derive(Drop)]
+#[derive(Clone, Copy)]
 pub struct Line {
     pub bytes: [u8; ROOM],
     pub length: usize,

@@ -1,5 +1,7 @@
 // Plays request records from standard input on a fresh panel and prints a line for each: call, code, running, N, L, M of
 // the reply. Bytes left over at the end give a last line `short` and their number.
+#![tactic(auto)]
+
 ghost use Rattle.std.specs.Prelude.{◌≤◌};
 
 use libc::{STDIN_FILENO, STDOUT_FILENO};

@@ -1,5 +1,7 @@
 // The process calls: create, delete, suspend, resume, change priority, schedule, state, sleep, and the tick.
 // Each says what a request does once it is accepted; where none could be, the tables stay as they are.
+#![tactic(auto)]
+
 ghost use Rattle.std.specs.Prelude.{◌-◌, ◌≡◌, cond, map};
 ghost use Rattle.answers.specs.Answers.{plain, step};
 ghost use Rattle.tables.specs.declared.Place.TheVariants.{Ready};

@@ -1,4 +1,6 @@
 // The ready line: who joins it, who is released into it, and who of it runs.
+#![tactic(auto)]
+
 ghost use Rattle.std.specs.Prelude.{◌≡◌};
 ghost use Rattle.ready.specs.Ready.{
   placed,

@@ -1,4 +1,6 @@
 // Records: request and reply, 72 bytes each.
+#![tactic(auto)]
+
 ghost use Rattle.std.specs.Prelude.{◌≡◌, [], ◌∷◌};
 ghost use Rattle.records.specs.Records.{number, zero_record, record_at, written_to};
 
@@ -8,7 +10,7 @@ pub const DATA: usize = 64;
 pub const LENGTH: usize = 8 + DATA;
 
 // A request or a reply.
-#[derive(Drop)]
+#[derive(Clone, Copy)]
 pub struct Record {
     // The call of a request, the code of a reply.
     pub what: u8,

@@ -1,4 +1,6 @@
 // The refusals: which of the codes 41 to 53 a request gets, if any.
+#![tactic(auto)]
+
 ghost use Rattle.std.specs.Prelude.{◌≡◌, not, cond, eqb, leb, drop};
 ghost use Rattle.tables.specs.Access.{numbered, nobody, nothing, process_of, structure_of, parcel_for};
 ghost use Rattle.tables.specs.Numbers.{is_live};

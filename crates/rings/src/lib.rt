@@ -1,4 +1,6 @@
 // Rings: put and get, their conditional forms, reset, collect, and the serving of the lines.
+#![tactic(auto)]
+
 ghost use Rattle.std.specs.Prelude.{◌≡◌, cond, false, [], ◌∷◌, ◌++◌, ◌+◌, ◌-◌, ◌≤◌, ◌<◌, eqb, leb, length, take, drop};
 ghost use Rattle.arrivals.specs.Order.{first};
 ghost use Rattle.bay.specs.Bay.{parcel_of};
@@ -45,7 +47,7 @@ use bay::{Holding, Moved, Parcel, Ring};
 use tables::{Kind, Line, Place, Tables};
 
 // Who is to be served: how many bytes are held then, how far each line has been gone through, and who it is, in turn.
-#[derive(Drop)]
+#[derive(Clone, Copy)]
 struct Plan {
     held: u16,
     getter: u8,
@@ -55,7 +57,7 @@ struct Plan {
 
 // What becomes of a transfer: no request could be accepted; it goes through at once, in this bay; the line, or the room or
 // the bytes, are in the way.
-#[derive(Drop)]
+#[derive(Clone, Copy)]
 pub enum Way {
     Closed,
     AtOnce(u8),

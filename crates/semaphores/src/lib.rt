@@ -1,4 +1,6 @@
 // Semaphores: wait and signal, their conditional forms, and signal all.
+#![tactic(auto)]
+
 ghost use Rattle.std.specs.Prelude.{◌≡◌, length};
 ghost use Rattle.arrivals.specs.Order.{keep};
 ghost use Rattle.answers.specs.Answers.{plain, step};

@@ -1,4 +1,6 @@
 // Sound: the test of whole tables. A loop looks at one process, structure or bay each turn, and stops at none.
+#![tactic(auto)]
+
 ghost use Rattle.std.specs.Prelude.{◌+◌, ◌%◌, ◌≤◌, ◌<◌, ◌≡◌, ◌&&◌, cond, false, eqb, length, true};
 ghost use Rattle.std.proofs.Math.Seq.{slice};
 ghost use Rattle.bay.specs.Bay.{in_range};
@@ -119,7 +121,7 @@ fn users_of(structures: [Structure; 24]) -> [u8; 256]
 }
 
 // The head getters and the head putters, each at the number of its ring.
-#[derive(Drop)]
+#[derive(Clone, Copy)]
 struct Heads {
     getters: [u8; 256],
     putters: [u8; 256],
@@ -492,7 +494,7 @@ fn bay_fits(users: u8, ring: Ring) -> bool
 }
 
 // What the test of the bays notes down: whether all fit, and their sizes and held counts.
-#[derive(Drop)]
+#[derive(Clone, Copy)]
 struct Bays {
     fit: bool,
     sizes: [u16; 8],

@@ -1,4 +1,6 @@
 // Structures: creation, deletion and their values.
+#![tactic(auto)]
+
 ghost use Rattle.std.specs.Prelude.{◌≡◌};
 ghost use Rattle.answers.specs.Answers.{plain, step};
 ghost use Rattle.structures.specs.Structures.{

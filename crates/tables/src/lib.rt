@@ -1,4 +1,6 @@
 // What the panel holds: processes, structures, ring bays and parcels, and who stands in which line.
+#![tactic(auto)]
+
 ghost use Rattle.std.specs.Prelude.{◌≡◌, cond, false, ◌+◌, ◌%◌};
 ghost use Rattle.arrivals.specs.Order.{first};
 ghost use Rattle.tables.specs.Numbers.{code, spot, place_code, kind_number, is_live, is_semaphore, is_ring};
@@ -30,7 +32,7 @@ ghost use Rattle.tables.specs.Access.{
 use bay::{Parcel, Ring};
 
 // Where a live process is; a number that is not live is nowhere.
-#[derive(Drop)]
+#[derive(Clone, Copy)]
 pub enum Place {
     Nowhere,
     Running,
@@ -47,7 +49,7 @@ pub enum Place {
     Asleep(u32),
 }
 
-#[derive(Drop)]
+#[derive(Clone, Copy)]
 pub struct Process {
     pub priority: u8,
     pub suspended: bool,
@@ -55,7 +57,7 @@ pub struct Process {
 }
 
 // What a structure is, with its value; of a ring, the number of its bay.
-#[derive(Drop)]
+#[derive(Clone, Copy)]
 pub enum Kind {
     Free,
     Binary(u8),
@@ -63,14 +65,14 @@ pub enum Kind {
     Ring(u8),
 }
 
-#[derive(Drop)]
+#[derive(Clone, Copy)]
 pub struct Structure {
     pub kind: Kind,
 }
 
 // A line of processes: the ready line, the parked line, a semaphore's line, the getters and the putters of a ring, the
 // sleepers.
-#[derive(Drop)]
+#[derive(Clone, Copy)]
 pub enum Line {
     Ready,
     Parked,
@@ -82,7 +84,7 @@ pub enum Line {
 
 // All that the panel holds. The order has the live processes, each once, from the one that joined a line first to the
 // one that did so last, behind as many zeros as numbers are free.
-#[derive(Drop)]
+#[derive(Clone, Copy)]
 pub struct Tables {
     pub running: u8,
     pub order: [u8; 32],

@@ -1,11 +1,13 @@
 // Tried at the bench: the cases of document 01 that no theorem computes, and the ring and suspension examples once more, put
 // to the kernel. A line for each request: call, code, running, N, L, M. A line of its own, `fresh`, begins a case.
+#![tactic(auto)]
+
 use layout::LENGTH;
 use libc::STDOUT_FILENO;
 use records::Record;
 
 // A state as a board keeps it.
-#[derive(Drop)]
+#[derive(Clone, Copy)]
 struct State {
     bytes: [u8; LENGTH],
 }

@@ -1,5 +1,7 @@
 // Plays the request streams of data/ through the extern function and compares every reply, whole, and every line of text
 // with the stored ones. A line for each stream: its name, how many requests it has, how many answers were wrong.
+#![tactic(auto)]
+
 ghost use Rattle.std.specs.Prelude.{◌≤◌};
 
 use libc::STDOUT_FILENO;

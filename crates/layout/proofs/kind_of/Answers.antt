@@ -1,0 +1,20 @@
+-- `layout::kind_of` meets its contract: each return is the definition at the tests on the way.
+use Rattle.layout.specs.Layout.{kind_of}
+use borrow.Author.Tests.{ne_eqb}
+use Rattle.layout.proofs.kind_of.Goals as goal
+
+pub returns-in-1 : goal.returns-in-1
+unfolding kind_of
+returns-in-1 c = simp c.in-1.keys1
+
+pub returns-in-2 : goal.returns-in-2
+unfolding kind_of
+returns-in-2 c = simp c.in-2.keys2
+
+pub returns-in-3 : goal.returns-in-3
+unfolding kind_of
+returns-in-3 c = simp c.in-3.keys3
+
+pub returns-in_default : goal.returns-in_default
+unfolding kind_of
+returns-in_default c = simp (ne_eqb _ _ c.in_default.rest.1, ne_eqb _ _ c.in_default.rest.0.1, ne_eqb _ _ c.in_default.rest.0.0.1)

@@ -1,0 +1,20 @@
+-- `layout::most_amount` meets its contract: each return is the definition at the tests on the way.
+use Rattle.layout.specs.Kept.{most_amount}
+use borrow.Author.Tests.{ne_eqb}
+use Rattle.layout.proofs.most_amount.Goals as goal
+
+pub returns-in-5 : goal.returns-in-5
+unfolding most_amount
+returns-in-5 c = simp c.in-5.keys1
+
+pub returns-in-6 : goal.returns-in-6
+unfolding most_amount
+returns-in-6 c = simp c.in-6.keys2
+
+pub returns-in-7 : goal.returns-in-7
+unfolding most_amount
+returns-in-7 c = simp c.in-7.keys3
+
+pub returns-in_default : goal.returns-in_default
+unfolding most_amount
+returns-in_default c = simp (ne_eqb _ _ c.in_default.rest.1, ne_eqb _ _ c.in_default.rest.0.1, ne_eqb _ _ c.in_default.rest.0.0.1)

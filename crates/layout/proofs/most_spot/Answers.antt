@@ -1,0 +1,20 @@
+-- `layout::most_spot` meets its contract: each return is the definition at the tests on the way.
+use Rattle.layout.specs.Kept.{most_spot}
+use borrow.Author.Tests.{ne_eqb}
+use Rattle.layout.proofs.most_spot.Goals as goal
+
+pub returns-in-4 : goal.returns-in-4
+unfolding most_spot
+returns-in-4 c = simp c.in-4.keys1
+
+pub returns-in-5 : goal.returns-in-5
+unfolding most_spot
+returns-in-5 c = simp c.in-5.keys2
+
+pub returns-in-6 : goal.returns-in-6
+unfolding most_spot
+returns-in-6 c = simp c.in-6.keys3
+
+pub returns-in_default : goal.returns-in_default
+unfolding most_spot
+returns-in_default c = simp (ne_eqb _ _ c.in_default.rest.1, ne_eqb _ _ c.in_default.rest.0.1, ne_eqb _ _ c.in_default.rest.0.0.1)

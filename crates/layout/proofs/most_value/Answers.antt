@@ -1,0 +1,20 @@
+-- `layout::most_value` meets its contract: each return is the definition at the tests on the way.
+use Rattle.layout.specs.Kept.{most_value}
+use borrow.Author.Tests.{ne_eqb}
+use Rattle.layout.proofs.most_value.Goals as goal
+
+pub returns-in-1 : goal.returns-in-1
+unfolding most_value
+returns-in-1 c = simp c.in-1.keys1
+
+pub returns-in-2 : goal.returns-in-2
+unfolding most_value
+returns-in-2 c = simp c.in-2.keys2
+
+pub returns-in-3 : goal.returns-in-3
+unfolding most_value
+returns-in-3 c = simp c.in-3.keys3
+
+pub returns-in_default : goal.returns-in_default
+unfolding most_value
+returns-in_default c = simp (ne_eqb _ _ c.in_default.rest.1, ne_eqb _ _ c.in_default.rest.0.1, ne_eqb _ _ c.in_default.rest.0.0.1)

@@ -1,0 +1,26 @@
+use Prim.Native.Nat.{◌+◌, ◌*◌}
+use mathlib.Core.Path.{◌≡◌, refl, ◌∙◌}
+use native.Mathlib.Omega.{arith}
+use Rattle.records.specs.Records.{Bytes}
+use Rattle.layout.specs.Pieces.{all_to}
+use Rattle.layout.specs.Layout.{processes_at}
+use Rattle.layout.specs.Kept.{process_told}
+use Rattle.layout.proofs.Laws.{all_to_more}
+use borrow.Author.Rules.{rules}
+use Rattle.layout.proofs.processes_kept.Goals as goal
+
+pub loop-i-init : goal.loop-i-init
+unfolding all_to
+loop-i-init c = (search rules, refl)
+
+pub loop-i-preserved : goal.loop-i-preserved
+loop-i-preserved c =
+    let o = c.loop-i in
+    let s = c.args.s.now in
+    let bytes : Bytes s = λ i. omega (arith, c.shared_slice_known-1.given i) in
+    (omega arith, all_to_more _ o.i _ _ o.invariant.1 (c.process_kept-ok.ensures ∙ rw c.number_of-k.ensures (process_told s (processes_at + o.i * 8) bytes (omega arith))))
+
+pub returns : goal.returns
+returns c =
+    let end : c.loop-i.i ≡ 32 = omega arith in
+    rw end at c.loop-i.invariant.1

@@ -1,0 +1,38 @@
+-- `layout::write_bytes` meets its contract: the parts follow each other from the bays on, up to the end.
+use mathlib.Core.Path.{◌≡◌}
+use native.Mathlib.Omega.{arith}
+use borrow.Author.Rules.{rules}
+use borrow.Author.Tests.{eq-eqb, ne_eqb}
+use lib.ListN.{length}
+use Rattle.basics.specs.Lists.{len_map}
+use Rattle.layout.specs.Layout.{bays_at, state_length, held_bytes, bytes_to}
+use Rattle.layout.specs.Laws.{bays_size, holdings_size, ring_bytes_size, parcel_bytes_size}
+use Rattle.layout.proofs.Owned.{rings_typed, parcels_typed}
+use Rattle.layout.proofs.Laws.{begun_none, begun_more, begun_end}
+use Rattle.layout.proofs.write_bytes.Goals as goal
+
+pub returns-then-s-ne-LENGTH : goal.returns-then-s-ne-LENGTH
+unfolding bytes_to
+returns-then-s-ne-LENGTH c = rw (ne_eqb (length c.args.s.now) state_length c.if-s-ne-LENGTH.true)
+
+pub returns : goal.returns
+unfolding bytes_to held_bytes
+returns c =
+    let parcels = c.before.before in
+    let rings = parcels.before.before.before.before in
+    let holdings = rings.before.before.before.before in
+    let bays = holdings.before.before.before.before in
+    let start = bays.before.before.before.before in
+    let s = start.args.s.now in
+    let long : length s ≡ state_length = bays.before.before.if1.false in
+    let r : length start.args.rings ≡ 8 = search (len_map, rules) in
+    let p : length start.args.parcels ≡ 32 = search (len_map, rules) in
+    let all =
+    begun_more _ _ 2048
+    (begun_more _ _ 2048
+    (begun_more _ _ 64
+    (begun_more _ _ 48 (begun_none s bays_at) (bays_size _ r) (omega arith) bays.write-bays.ensures)
+    (holdings_size _ p) (omega arith) holdings.write-holdings.ensures)
+    (ring_bytes_size _ (rings_typed start.args.rings _ start.well-formed.1.0) r) (omega arith) rings.write-ring-bytes.ensures)
+    (parcel_bytes_size _ (parcels_typed start.args.parcels _ start.well-formed.1.1.0) p) (omega arith) parcels.write-parcel-bytes.ensures in
+    rw (eq-eqb (length s) state_length long) (begun_end all (omega arith))

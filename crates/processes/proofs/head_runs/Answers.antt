@@ -1,0 +1,7 @@
+-- `processes::head_runs` meets its contract: step by step as its definition.
+use Rattle.processes.specs.Processes.{head_runs}
+use Rattle.processes.proofs.head_runs.Goals as goal
+
+pub returns : goal.returns
+unfolding head_runs
+returns c = simp (← c.runs.ensures, ← c.ready_head.ensures)

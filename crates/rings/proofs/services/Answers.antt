@@ -1,0 +1,64 @@
+use Prim.Native.Nat.{◌+◌}
+use mathlib.Core.Path.{◌≡◌, refl, sym, ap, ◌∙◌}
+use mathlib.Core.Logic.{⊎_elim}
+use native.Mathlib.Omega.{arith}
+use lib.ListN.{length, length-set}
+use Rattle.answers.specs.Answers.{step}
+use borrow.Author.Rules.{rules}
+use Rattle.basics.specs.Lists.{len_map}
+use Rattle.tables.specs.Access.{with_ring}
+use Rattle.rings.specs.Serving.{services}
+use Rattle.rings.proofs.Laws.{one_more, no_more}
+use Rattle.rings.proofs.Replay.{parts, first_its, first_parts, its_again, passed, none_served, one_served}
+use Rattle.rings.proofs.services.Goals as goal
+
+-- The plan has room for 64
+all-places : (c : tie.Start invariant-loop decreases-loop) → length c.args.t3.served ≡ 64
+all-places c = search (len_map, rules)
+
+pub returns-then-count-eq0 : goal.returns-then-count-eq0
+returns-then-count-eq0 c =
+    let a = c.args in
+    let long : length a.t3.served ≡ 64 = all-places c.before in
+    ap (λ u. step u a.answer) (sym (no_more a.b a.t3.served (a.t3.getter + a.t3.putter) 0 a.t (omega arith) (omega (arith, c.if-count-eq0.true))))
+
+pub loop-i-init : goal.loop-i-init
+loop-i-init c =
+    let t = c.args.t in
+    let b = c.args.b in
+    let taken = c.ring_in-ring.ensures in
+    (search rules, search (len_map, rules), search (len_map, rules), first_its t b _ taken, ap (services b _) (first_parts t b _ taken))
+
+pub loop-i-preserved : goal.loop-i-preserved
+loop-i-preserved c =
+    let a = c.args in
+    let at = c.loop-i in
+    let entry = c.entry_of-k.ensures in
+    let seen = c.at_ring.ensures in
+    let long : length a.t3.served ≡ 64 = all-places c.before.before.before.before.before.before.before.before.before.before.before.before in
+    let next = one_more a.b a.t3.served (a.t3.getter + a.t3.putter) at.i _ (parts a.t a.b at.ring at.order at.processes at.parcels) in
+    ⊎_elim
+    (λ w.
+    let its = passed _ _ _ (sym w.0.taken ∙ seen) entry in (
+      search rules,
+      rw w.9 (simp length-set at.invariant.1),
+      rw w.10 (simp length-set at.invariant.2),
+      rw w.7 (its_again a.t a.b at.ring _ _ _ w.2.ensures at.invariant.3),
+      rw (w.7, w.8, w.9, w.10) (next _ (omega arith) (omega arith) refl (one_served a.t a.b at.ring _ _ at.processes at.parcels _ _ _ _ _ _ its.0 (omega (arith, its.1, at.invariant.1)) (omega (arith, its.1, at.invariant.2)) its.2 at.invariant.3 w.6.ensures w.5.ensures its.3 w.2.ensures) ∙ at.invariant.4),
+    ))
+    (λ w. (
+      search rules,
+      rw w.3 at.invariant.1,
+      rw w.4 at.invariant.2,
+      rw w.1 at.invariant.3,
+      rw (w.1, w.2, w.3, w.4) (next _ (omega arith) (omega arith) refl (none_served a.b _ _ _ _ _ at.invariant.1 entry seen w.0.left) ∙ at.invariant.4),
+    ))
+    c.if-at_ring.branch
+
+pub returns : goal.returns
+unfolding with_ring
+returns c =
+    let a = c.args in
+    let at = c.loop-i in
+    let long : length a.t3.served ≡ 64 = all-places c.before.before.before.before.before.before.before.before in
+    ap (λ u. step u a.answer) (c.with_ring-last.ensures ∙ sym (no_more a.b a.t3.served (a.t3.getter + a.t3.putter) at.i _ (omega arith) (omega arith)) ∙ at.invariant.4)

@@ -1,0 +1,8 @@
+-- `sound::at_zero` meets its contract: a case for each kind.
+use Rattle.sound.proofs.at_zero.Goals as goal
+
+pub returns-in-Binary : goal.returns-in-Binary
+returns-in-Binary c = simp c.kind-1.given.1
+
+pub returns-in-Counting : goal.returns-in-Counting
+returns-in-Counting c = simp c.kind-in-Counting-1.given.1

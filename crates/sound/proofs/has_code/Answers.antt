@@ -1,0 +1,16 @@
+-- `sound::has_code` meets its contract: each return is the definition at the tests on the way.
+use Rattle.tables.specs.Lines.{is_number}
+use borrow.Author.Tests.{eq-eqb, le-leb, le-ltb, lt-leb, lt-ltb, ne_eqb}
+use Rattle.sound.proofs.has_code.Goals as goal
+
+pub returns-then-x-eq0 : goal.returns-then-x-eq0
+unfolding is_number
+returns-then-x-eq0 c = simp (eq-eqb _ _ c.if-x-eq0.true)
+
+pub returns-then-x-gt32 : goal.returns-then-x-gt32
+unfolding is_number
+returns-then-x-gt32 c = simp (lt-ltb _ _ c.if-x-gt32.true, lt-leb _ _ c.if-x-gt32.true, ne_eqb _ _ c.if-x-eq0.false)
+
+pub returns : goal.returns
+unfolding is_number
+returns c = simp (le-leb _ _ c.if-x-gt32.false, le-ltb _ _ c.if-x-gt32.false, ne_eqb _ _ c.if-x-eq0.false, ← c.code_of.ensures)

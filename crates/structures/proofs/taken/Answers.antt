@@ -1,0 +1,34 @@
+use Prim.Native.Nat.{◌+◌}
+use mathlib.Core.Path.{◌≡◌, refl, sym, ◌∙◌}
+use mathlib.Core.Bool.{true, cond}
+use lib.ListN.{drop, length}
+use borrow.Author.Rules.{rules}
+use native.Mathlib.Omega.{arith}
+use Rattle.basics.specs.Lists.{len_map}
+use Rattle.structures.specs.Structures.{taken}
+use Rattle.structures.proofs.Laws.{taken_on, taken_end}
+use Rattle.structures.proofs.taken.Goals as goal
+
+-- What is left, by the answer of `is_in`
+left : (c : tie.After-is-in invariant-loop decreases-loop) →
+    let a = c.before.before.before.before.args in
+    let i = c.before.before.before.loop.i in
+    taken (drop i a.t1) a.b ≡ cond c.is-in.result true (taken (drop (i + 1) a.t1) a.b)
+left c =
+    let a = c.before.before.before.before.args in
+    let long : length a.t1 ≡ 24 = search (len_map, rules) in
+    taken_on a.t1 a.b c.before.before.before.loop.i _ _ (omega arith) c.is-in.ensures
+
+pub loop-i-init : goal.loop-i-init
+loop-i-init c = (search rules, refl)
+
+pub returns-then-is_in : goal.returns-then-is_in
+returns-then-is_in c = rw (left c.before, c.if-is_in.true) at c.loop-i.invariant.1
+
+pub loop-i-preserved : goal.loop-i-preserved
+loop-i-preserved c = (search rules, rw (left c.before, c.if-is_in.false) at c.loop-i.invariant.1)
+
+pub returns : goal.returns
+returns c =
+    let long : length c.args.structures ≡ 24 = search (len_map, rules) in
+    sym (taken_end c.args.structures _ c.loop-i.i (omega arith)) ∙ c.loop-i.invariant.1

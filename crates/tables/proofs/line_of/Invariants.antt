@@ -1,0 +1,14 @@
+-- `tables::line_of` meets its contract: each return is the definition at the tests on the way.
+use Prim.Native.Nat.{◌≤◌, ◌-◌}
+use lib.ListN.{drop}
+use Rattle.arrivals.specs.Order.{keep}
+use Rattle.tables.specs.Lines.{standing}
+use Rattle.tables.proofs.Laws.{Front}
+use Rattle.tables.proofs.line_of.Given as goal
+
+abbrev pub invariant-loop-i : goal.invariant-loop-i
+invariant-loop-i l =
+    (l.i ≤ 32) × (l.k ≤ l.i) × Front l.members l.k (keep (standing l.which l.processes) (drop l.i l.order)) (keep (standing l.which l.processes) l.order)
+
+abbrev pub decreases-loop-i : goal.decreases-loop-i
+decreases-loop-i l = 32 - l.i
