@@ -9,12 +9,12 @@ loop-i-init c = (search rules, omega arith, omega arith)
 pub returns-then-order-i : goal.returns-then-order-i
 returns-then-order-i c =
     let a = c.args in
-    omega (arith, found a.x a.t1 c.loop-i.i (omega arith) c.if-order-i.true)
+    omega (arith, found a.x a.order c.loop-i.i (omega arith) c.if-order-i.true)
 
 pub loop-i-preserved : goal.loop-i-preserved
 loop-i-preserved c =
     let a = c.args in
-    (omega arith, omega arith, omega (arith, passed a.x a.t1 c.loop-i.i (omega arith) c.if-order-i.false))
+    (omega arith, omega arith, omega (arith, passed a.x a.order c.loop-i.i (omega arith) c.if-order-i.false))
 
 pub returns : goal.returns
 returns c = omega (arith, ended c.args.x c.args.order c.loop-i.i (omega arith))

@@ -14,8 +14,8 @@ pub loop-i-preserved : goal.loop-i-preserved
 loop-i-preserved c =
     let a = c.args in
     let at = c.loop-i in
-    let long : length a.t2 ≡ 32 = search (len_map, rules) in
-    let next = one_more a.t2 at.i (seated a.t at.order at.processes) in
+    let long : length a.members ≡ 32 = search (len_map, rules) in
+    let next = one_more a.members at.i (seated a.t at.order at.processes) in
     ⊎_elim
     (λ w. (search rules, rw w.6 (simp length-set at.invariant.1), rw (w.5, w.6) (next _ (omega arith) (one_released a.t _ _ _ _ w.0.taken w.1.ensures _ _ (omega (arith, w.2.taken, at.invariant.1)) w.4.ensures) ∙ at.invariant.2)))
     (⊎_elim

@@ -19,8 +19,8 @@ all-places c = search (len_map, rules)
 pub returns-then-count-eq0 : goal.returns-then-count-eq0
 returns-then-count-eq0 c =
     let a = c.args in
-    let long : length a.t3.served ≡ 64 = all-places c.before in
-    ap (λ u. step u a.answer) (sym (no_more a.b a.t3.served (a.t3.getter + a.t3.putter) 0 a.t (omega arith) (omega (arith, c.if-count-eq0.true))))
+    let long : length a.plan.served ≡ 64 = all-places c.before in
+    ap (λ u. step u a.answer) (sym (no_more a.b a.plan.served (a.plan.getter + a.plan.putter) 0 a.t (omega arith) (omega (arith, c.if-count-eq0.true))))
 
 pub loop-i-init : goal.loop-i-init
 loop-i-init c =
@@ -35,8 +35,8 @@ loop-i-preserved c =
     let at = c.loop-i in
     let entry = c.entry_of-k.ensures in
     let seen = c.at_ring.ensures in
-    let long : length a.t3.served ≡ 64 = all-places c.before.before.before.before.before.before.before.before.before.before.before.before in
-    let next = one_more a.b a.t3.served (a.t3.getter + a.t3.putter) at.i _ (parts a.t a.b at.ring at.order at.processes at.parcels) in
+    let long : length a.plan.served ≡ 64 = all-places c.before.before.before.before.before.before.before.before.before.before.before.before in
+    let next = one_more a.b a.plan.served (a.plan.getter + a.plan.putter) at.i _ (parts a.t a.b at.ring at.order at.processes at.parcels) in
     ⊎_elim
     (λ w.
     let its = passed _ _ _ (sym w.0.taken ∙ seen) entry in (
@@ -60,5 +60,5 @@ unfolding with_ring
 returns c =
     let a = c.args in
     let at = c.loop-i in
-    let long : length a.t3.served ≡ 64 = all-places c.before.before.before.before.before.before.before.before in
-    ap (λ u. step u a.answer) (c.with_ring-last.ensures ∙ sym (no_more a.b a.t3.served (a.t3.getter + a.t3.putter) at.i _ (omega arith) (omega arith)) ∙ at.invariant.4)
+    let long : length a.plan.served ≡ 64 = all-places c.before.before.before.before.before.before.before.before in
+    ap (λ u. step u a.answer) (c.with_ring-last.ensures ∙ sym (no_more a.b a.plan.served (a.plan.getter + a.plan.putter) at.i _ (omega arith) (omega arith)) ∙ at.invariant.4)

@@ -35,10 +35,10 @@ returns c =
     let all : l.i ≡ 8 = omega arith in
     let a = c.args in
     let users = c.users_of-users in
-    let long : length a.t2 ≡ 8 = search (len_map, rules) in (
+    let long : length a.rings ≡ 8 = search (len_map, rules) in (
       (rw all at l.invariant.1)
-          ∙ laws.every_same 8 (λ b. bay_tested (get_or users.result b 0) (ring_at a.t2 b)) (λ b. bay_tested (sound.users b a.structures) (ring_at a.t2 b))
-          (λ b h. ap (λ (k : ℕ). bay_tested k (ring_at a.t2 b)) (ap (λ (m : List ℕ). get_or m b 0) users.ensures ∙ laws.used_at a.structures b (omega arith))),
-      laws.noted_all (λ (r : Ring). r.size) a.t2 l.sizes 8 long l.invariant.2 (rw all at l.invariant.3),
-      laws.noted_all (λ (r : Ring). r.held) a.t2 l.held 8 long l.invariant.4 (rw all at l.invariant.5),
+          ∙ laws.every_same 8 (λ b. bay_tested (get_or users.result b 0) (ring_at a.rings b)) (λ b. bay_tested (sound.users b a.structures) (ring_at a.rings b))
+          (λ b h. ap (λ (k : ℕ). bay_tested k (ring_at a.rings b)) (ap (λ (m : List ℕ). get_or m b 0) users.ensures ∙ laws.used_at a.structures b (omega arith))),
+      laws.noted_all (λ (r : Ring). r.size) a.rings l.sizes 8 long l.invariant.2 (rw all at l.invariant.3),
+      laws.noted_all (λ (r : Ring). r.held) a.rings l.held 8 long l.invariant.4 (rw all at l.invariant.5),
     )

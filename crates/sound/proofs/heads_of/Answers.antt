@@ -36,27 +36,27 @@ pub loop-i-preserved-then-has_code-2 : goal.loop-i-preserved-then-has_code-2
 loop-i-preserved-then-has_code-2 c =
     let l = c.loop-i in
     let a = c.args in
-    let order : length a.t2 ≡ 32 = search (len_map, rules) in
-    let processes : length a.t1 ≡ 32 = search (len_map, rules) in
+    let order : length a.order ≡ 32 = search (len_map, rules) in
+    let processes : length a.processes ≡ 32 = search (len_map, rules) in
     let entry = c.entry_of in
     let has = c.has_code-in-loop-i in
     let small : c.spot_of-n.result < 256 = search rules in (
       omega arith,
       getters-noted c.before,
-      laws.head_noted 6 a.t1 a.t2 l.i entry.result has.result _ l.putters (omega arith) processes (omega arith) (omega arith) entry.ensures has.ensures l.invariant.2 c.spot_of-n.result c.if-has_code-2.true c.spot_of-n.ensures small,
+      laws.head_noted 6 a.processes a.order l.i entry.result has.result _ l.putters (omega arith) processes (omega arith) (omega arith) entry.ensures has.ensures l.invariant.2 c.spot_of-n.result c.if-has_code-2.true c.spot_of-n.ensures small,
     )
 
 pub loop-i-preserved : goal.loop-i-preserved
 loop-i-preserved c =
     let l = c.loop-i in
     let a = c.args in
-    let order : length a.t2 ≡ 32 = search (len_map, rules) in
-    let processes : length a.t1 ≡ 32 = search (len_map, rules) in
+    let order : length a.order ≡ 32 = search (len_map, rules) in
+    let processes : length a.processes ≡ 32 = search (len_map, rules) in
     let entry = c.entry_of in
     let has = c.has_code-in-loop-i in (
       omega arith,
       getters-noted c.before,
-      laws.head_kept 6 a.t1 a.t2 l.i entry.result has.result _ l.putters (omega arith) processes (omega arith) (omega arith) entry.ensures has.ensures l.invariant.2 c.if-has_code-2.false,
+      laws.head_kept 6 a.processes a.order l.i entry.result has.result _ l.putters (omega arith) processes (omega arith) (omega arith) entry.ensures has.ensures l.invariant.2 c.if-has_code-2.false,
     )
 
 pub returns : goal.returns

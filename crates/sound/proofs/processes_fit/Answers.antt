@@ -16,21 +16,21 @@ pub loop-i-preserved : goal.loop-i-preserved
 loop-i-preserved c =
     let a = c.args in
     let l = c.loop-i in
-    let processes : length a.t3 ≡ 32 = search (len_map, rules) in
-    let structures : length a.t4 ≡ 24 = search (len_map, rules) in
-    let sizes : length a.t5 ≡ 8 = search (len_map, rules) in
-    let parcels : length a.t6 ≡ 32 = search (len_map, rules) in
+    let processes : length a.processes ≡ 32 = search (len_map, rules) in
+    let structures : length a.structures ≡ 24 = search (len_map, rules) in
+    let sizes : length a.sizes ≡ 8 = search (len_map, rules) in
+    let parcels : length a.parcels ≡ 32 = search (len_map, rules) in
     let n = c.spot_of-n in
     let b = c.bay_of-b in
-    let kind = laws.kind_seen a.t4 n.result _ _ _ structures c.structure_entry.ensures c.kind_named-kind.ensures n.ensures in
-    let size = laws.amount_seen a.t5 b.result _ _ sizes c.bay_entry.ensures c.amount_named-size.ensures b.ensures in (
+    let kind = laws.kind_seen a.structures n.result _ _ _ structures c.structure_entry.ensures c.kind_named-kind.ensures n.ensures in
+    let size = laws.amount_seen a.sizes b.result _ _ sizes c.bay_entry.ensures c.amount_named-size.ensures b.ensures in (
       omega arith,
       l.invariant.1,
       laws.turn _ l.i l.ok _ l.invariant.2
           (laws.both_same
-          (laws.process_turn a.running _ a.t3 a.t4 a.t5 a.t6 (l.i + 1) (laws.next_entry a.t3 l.i nobody _ (omega arith)) (laws.next_entry a.t6 l.i empty_parcel _ (omega arith)) refl kind size
+          (laws.process_turn a.running _ a.processes a.structures a.sizes a.parcels (l.i + 1) (laws.next_entry a.processes l.i nobody _ (omega arith)) (laws.next_entry a.parcels l.i empty_parcel _ (omega arith)) refl kind size
           c.listed_fits-listed.ensures c.runs_fits-runs.ensures c.place_fits-fits.ensures c.parcel_fits-kept.ensures)
-          (c.rank_fits-ranks.ensures ∙ laws.rank_turn _ a.t3 l.i _ (omega arith))),
+          (c.rank_fits-ranks.ensures ∙ laws.rank_turn _ a.processes l.i _ (omega arith))),
     )
 
 pub returns : goal.returns

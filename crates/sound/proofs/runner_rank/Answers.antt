@@ -9,5 +9,5 @@ use Rattle.sound.proofs.runner_rank.Goals as goal
 pub returns : goal.returns
 returns c =
     let a = c.args in
-    let long : length a.t2 ≡ 32 = search (len_map, rules) in
-    laws.runner_rank a.t2 a.running _ _ _ _ long c.entry_of.ensures c.priority_named.ensures c.rank_of.ensures
+    let long : length a.processes ≡ 32 = search (len_map, rules) in
+    laws.runner_rank a.processes a.running _ _ _ _ long c.entry_of.ensures c.priority_named.ensures c.rank_of.ensures

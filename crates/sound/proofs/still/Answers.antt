@@ -16,8 +16,8 @@ use Rattle.sound.proofs.still.Goals as goal
 pub returns-then-nobody_at_rings : goal.returns-then-nobody_at_rings
 returns-then-nobody_at_rings c =
     let a = c.args in
-    let processes : length a.t2 ≡ 32 = search (len_map, rules) in
-    sym (laws.nobody_rests a.t2 a.order processes (sym c.nobody_at_rings.ensures ∙ c.if-nobody_at_rings.true) a.t3 a.t4 a.t5)
+    let processes : length a.processes ≡ 32 = search (len_map, rules) in
+    sym (laws.nobody_rests a.processes a.order processes (sym c.nobody_at_rings.ensures ∙ c.if-nobody_at_rings.true) a.structures a.sizes a.held)
 
 pub loop-i-init : goal.loop-i-init
 loop-i-init c = (search rules, rw c.heads_of-heads.ensures.0 (laws.length_heads _ _ _), rw c.heads_of-heads.ensures.1 (laws.length_heads _ _ _), laws.every_none _)
@@ -27,25 +27,25 @@ loop-i-preserved c =
     let a = c.args in
     let l = c.loop-i in
     let heads = c.heads_of-heads in
-    let processes : length a.t2 ≡ 32 = search (len_map, rules) in
-    let structures : length a.t3 ≡ 24 = search (len_map, rules) in
-    let sizes : length a.t4 ≡ 8 = search (len_map, rules) in
-    let held : length a.t5 ≡ 8 = search (len_map, rules) in
-    let is = ap (λ (s : Structure). s.kind) (laws.next_entry a.t3 l.i nothing _ (omega arith)) in
-    let getter = ap (λ (m : List ℕ). get_or m (l.i + 1) 0) heads.ensures.0 ∙ laws.head_at 5 a.t2 a.order (l.i + 1) (omega arith) in
-    let putter = ap (λ (m : List ℕ). get_or m (l.i + 1) 0) heads.ensures.1 ∙ laws.head_at 6 a.t2 a.order (l.i + 1) (omega arith) in (
+    let processes : length a.processes ≡ 32 = search (len_map, rules) in
+    let structures : length a.structures ≡ 24 = search (len_map, rules) in
+    let sizes : length a.sizes ≡ 8 = search (len_map, rules) in
+    let held : length a.held ≡ 8 = search (len_map, rules) in
+    let is = ap (λ (s : Structure). s.kind) (laws.next_entry a.structures l.i nothing _ (omega arith)) in
+    let getter = ap (λ (m : List ℕ). get_or m (l.i + 1) 0) heads.ensures.0 ∙ laws.head_at 5 a.processes a.order (l.i + 1) (omega arith) in
+    let putter = ap (λ (m : List ℕ). get_or m (l.i + 1) 0) heads.ensures.1 ∙ laws.head_at 6 a.processes a.order (l.i + 1) (omega arith) in (
       omega arith,
       l.invariant.1,
       l.invariant.2,
       ⊎_elim
           (λ w. rw w.15 (laws.turn _ l.i l.ok w.14.result l.invariant.3
-          (laws.rests_turn a.t2 a.t3 a.t4 a.t5 _ _ (l.i + 1) is (sym c.is_ring.ensures ∙ w.0.taken)
-          (laws.amount_seen a.t4 w.1.result _ _ sizes w.2.ensures w.3.ensures w.1.ensures)
-          (laws.amount_seen a.t5 w.1.result _ _ held w.4.ensures w.5.ensures w.1.ensures)
-          (λ z. w.12.ensures ∙ ap asked (sym (laws.head_entry 5 a.t2 a.order (l.i + 1) _ _ _ (omega arith) processes getter z w.8.ensures)))
-          (λ z. w.13.ensures ∙ ap asked (sym (laws.head_entry 6 a.t2 a.order (l.i + 1) _ _ _ (omega arith) processes putter z w.10.ensures)))
+          (laws.rests_turn a.processes a.structures a.sizes a.held _ _ (l.i + 1) is (sym c.is_ring.ensures ∙ w.0.taken)
+          (laws.amount_seen a.sizes w.1.result _ _ sizes w.2.ensures w.3.ensures w.1.ensures)
+          (laws.amount_seen a.held w.1.result _ _ held w.4.ensures w.5.ensures w.1.ensures)
+          (λ z. w.12.ensures ∙ ap asked (sym (laws.head_entry 5 a.processes a.order (l.i + 1) _ _ _ (omega arith) processes getter z w.8.ensures)))
+          (λ z. w.13.ensures ∙ ap asked (sym (laws.head_entry 6 a.processes a.order (l.i + 1) _ _ _ (omega arith) processes putter z w.10.ensures)))
           w.14.ensures)))
-          (λ w. rw w.1 (sym (and-true l.ok) ∙ laws.turn _ l.i l.ok true l.invariant.3 (laws.rests_other a.t2 a.t3 a.t4 a.t5 _ _ (l.i + 1) is (sym c.is_ring.ensures ∙ w.0.left))))
+          (λ w. rw w.1 (sym (and-true l.ok) ∙ laws.turn _ l.i l.ok true l.invariant.3 (laws.rests_other a.processes a.structures a.sizes a.held _ _ (l.i + 1) is (sym c.is_ring.ensures ∙ w.0.left))))
           c.if-is_ring.branch,
     )
 

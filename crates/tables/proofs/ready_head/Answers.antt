@@ -1,4 +1,5 @@
 use Prim.Native.Nat.{◌+◌}
+use mathlib.Core.List.{[]}
 use mathlib.Core.Path.{◌≡◌, sym, ◌∙◌}
 use mathlib.Core.Logic.{⊎_elim}
 use lib.ListN.{drop, length, get_or}

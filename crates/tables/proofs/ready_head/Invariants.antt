@@ -1,5 +1,6 @@
 -- `tables::ready_head` meets its contract: each return is the definition at the tests on the way.
 use Prim.Native.Nat.{◌≤◌, ◌-◌}
+use mathlib.Core.List.{[]}
 use mathlib.Core.Path.{◌≡◌}
 use lib.ListN.{drop}
 use Rattle.arrivals.specs.Order.{keep, first}
