@@ -2,7 +2,6 @@ use mathlib.Core.Path.{sym, ap, ◌∙◌}
 use Prim.Native.Nat.{◌+◌, ◌≤◌}
 use native.Mathlib.Omega.{arith}
 use borrow.Author.Rules.{rules}
-use borrow.Author.Tests.{not-true, not-false}
 use lib.Seq.{paste-zero}
 use Rattle.bay.specs.Round.{round_within}
 use Rattle.bay.specs.Bay.{Numbers, contents, with_bytes}
@@ -11,13 +10,13 @@ use Rattle.bay.proofs.Laws.{left_none, left_turn, filled_turn, left_all}
 use Rattle.bay.proofs.get.Goals as goal
 
 pub returns-then-not-get_fits : goal.returns-then-not-get_fits
-returns-then-not-get_fits c = sym (get_refused _ _ _ _ (sym c.get_fits.ensures ∙ not-true _ c.if-not-get_fits.true))
+returns-then-not-get_fits c = sym (get_refused _ _ _ _ (sym c.get_fits.ensures ∙ c.if-not-get_fits.true))
 
 pub loop-i-init : goal.loop-i-init
 loop-i-init c =
     let a = c.args in
     let f : (Numbers a.ring.start a.ring.size a.ring.held) × (a.at + a.n ≤ 64) × (a.n ≤ a.ring.held) =
-    get_fits_true _ _ _ _ _ (sym c.get_fits.ensures ∙ not-false _ c.if-not-get_fits.false) in
+    get_fits_true _ _ _ _ _ (sym c.get_fits.ensures ∙ c.if-not-get_fits.false) in
     (omega arith, f.0, f.1, f.2, search rules, ap (with_bytes a.ring) (left_none a.ring (search rules)), paste-zero a.parcel.bytes a.at (contents a.ring))
 
 pub bounds-next-from : goal.bounds-next-from
@@ -47,4 +46,4 @@ returns c =
     let a = c.args in
     let l = c.loop-i in
     left_all a.ring a.parcel a.at a.n l.i c.going_round.result l.next l.bytes (omega arith) c.going_round.ensures l.invariant.5 l.invariant.6
-    ∙ sym (get_done _ _ _ _ (sym c.get_fits.ensures ∙ not-false _ c.if-not-get_fits.false))
+    ∙ sym (get_done _ _ _ _ (sym c.get_fits.ensures ∙ c.if-not-get_fits.false))

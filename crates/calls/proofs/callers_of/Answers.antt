@@ -10,7 +10,7 @@ use Rattle.calls.proofs.callers_of.Goals as goal
 
 pub returns-in-1 : goal.returns-in-1
 unfolding table row_in row_of
-returns-in-1 c = rw c.in-1.keys1
+returns-in-1 c = rw c.in-1.is
 
 -- 9 and 23
 -- UNPLACED returns-2 : tie.Need-returns-2

@@ -5,15 +5,15 @@ use Rattle.layout.proofs.most_amount.Goals as goal
 
 pub returns-in-5 : goal.returns-in-5
 unfolding most_amount
-returns-in-5 c = simp c.in-5.keys1
+returns-in-5 c = simp c.in-5.is
 
 pub returns-in-6 : goal.returns-in-6
 unfolding most_amount
-returns-in-6 c = simp c.in-6.keys2
+returns-in-6 c = simp c.in-6.is
 
 pub returns-in-7 : goal.returns-in-7
 unfolding most_amount
-returns-in-7 c = simp c.in-7.keys3
+returns-in-7 c = simp c.in-7.is
 
 pub returns-in_default : goal.returns-in_default
 unfolding most_amount

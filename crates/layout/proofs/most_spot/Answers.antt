@@ -5,15 +5,15 @@ use Rattle.layout.proofs.most_spot.Goals as goal
 
 pub returns-in-4 : goal.returns-in-4
 unfolding most_spot
-returns-in-4 c = simp c.in-4.keys1
+returns-in-4 c = simp c.in-4.is
 
 pub returns-in-5 : goal.returns-in-5
 unfolding most_spot
-returns-in-5 c = simp c.in-5.keys2
+returns-in-5 c = simp c.in-5.is
 
 pub returns-in-6 : goal.returns-in-6
 unfolding most_spot
-returns-in-6 c = simp c.in-6.keys3
+returns-in-6 c = simp c.in-6.is
 
 pub returns-in_default : goal.returns-in_default
 unfolding most_spot

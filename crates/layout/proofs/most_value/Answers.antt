@@ -5,15 +5,15 @@ use Rattle.layout.proofs.most_value.Goals as goal
 
 pub returns-in-1 : goal.returns-in-1
 unfolding most_value
-returns-in-1 c = simp c.in-1.keys1
+returns-in-1 c = simp c.in-1.is
 
 pub returns-in-2 : goal.returns-in-2
 unfolding most_value
-returns-in-2 c = simp c.in-2.keys2
+returns-in-2 c = simp c.in-2.is
 
 pub returns-in-3 : goal.returns-in-3
 unfolding most_value
-returns-in-3 c = simp c.in-3.keys3
+returns-in-3 c = simp c.in-3.is
 
 pub returns-in_default : goal.returns-in_default
 unfolding most_value

@@ -4,32 +4,32 @@ use Rattle.processes.proofs.suspended_from.Goals as goal
 
 pub returns-in-Nowhere : goal.returns-in-Nowhere
 unfolding suspended_from
-returns-in-Nowhere c = simp (c.enum_told-1.given.1, ← c.plainly.ensures)
+returns-in-Nowhere c = simp (c.in-Nowhere.is, ← c.plainly.ensures)
 
 pub returns-in-Running : goal.returns-in-Running
 unfolding suspended_from
-returns-in-Running c = simp (c.enum_told-in-Running-1.given.1, ← c.plainly-in-Running.ensures, ← c.parked-next.ensures)
+returns-in-Running c = simp (c.in-Running.is, ← c.plainly-in-Running.ensures, ← c.parked-next.ensures)
 
 pub returns-in-Ready : goal.returns-in-Ready
 unfolding suspended_from
-returns-in-Ready c = simp (c.enum_told-in-Ready-1.given.1, ← c.plainly-in-Ready.ensures, ← c.parked.ensures)
+returns-in-Ready c = simp (c.in-Ready.is, ← c.plainly-in-Ready.ensures, ← c.parked.ensures)
 
 pub returns-in-Parked : goal.returns-in-Parked
 unfolding suspended_from
-returns-in-Parked c = simp (c.enum_told-in-Parked-1.given.1, ← c.plainly-in-Parked.ensures)
+returns-in-Parked c = simp (c.in-Parked.is, ← c.plainly-in-Parked.ensures)
 
 pub returns-in-Waiting : goal.returns-in-Waiting
 unfolding suspended_from
-returns-in-Waiting c = simp (c.enum_told-in-Waiting-1.given.1, ← c.in_place.ensures, ← c.marked.ensures)
+returns-in-Waiting c = simp (c.in-Waiting.is, ← c.in_place.ensures, ← c.marked.ensures)
 
 pub returns-in-Getting : goal.returns-in-Getting
 unfolding suspended_from
-returns-in-Getting c = simp (c.enum_told-in-Getting-1.given.1, ← c.in_place-in-Getting.ensures, ← c.marked-in-Getting.ensures)
+returns-in-Getting c = simp (c.in-Getting.is, ← c.in_place-in-Getting.ensures, ← c.marked-in-Getting.ensures)
 
 pub returns-in-Putting : goal.returns-in-Putting
 unfolding suspended_from
-returns-in-Putting c = simp (c.enum_told-in-Putting-1.given.1, ← c.in_place-in-Putting.ensures, ← c.marked-in-Putting.ensures)
+returns-in-Putting c = simp (c.in-Putting.is, ← c.in_place-in-Putting.ensures, ← c.marked-in-Putting.ensures)
 
 pub returns-in-Asleep : goal.returns-in-Asleep
 unfolding suspended_from
-returns-in-Asleep c = simp (c.enum_told-in-Asleep-1.given.1, ← c.in_place-in-Asleep.ensures, ← c.marked-in-Asleep.ensures)
+returns-in-Asleep c = simp (c.in-Asleep.is, ← c.in_place-in-Asleep.ensures, ← c.marked-in-Asleep.ensures)

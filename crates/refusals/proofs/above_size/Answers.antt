@@ -2,4 +2,4 @@
 use Rattle.refusals.proofs.above_size.Goals as goal
 
 pub returns-in-Ring : goal.returns-in-Ring
-returns-in-Ring c = simp (c.kind-1.given.1, ← c.ring_in-ring.ensures)
+returns-in-Ring c = simp (c.in-Ring.is, ← c.ring_in-ring.ensures)

@@ -2,10 +2,10 @@
 use Rattle.refusals.proofs.amount_fits.Goals as goal
 
 pub returns-in-Unused : goal.returns-in-Unused
-returns-in-Unused c = simp c.enum_told-1.given.1
+returns-in-Unused c = simp c.in-Unused.is
 
 pub returns-in-Milliseconds : goal.returns-in-Milliseconds
-returns-in-Milliseconds c = simp c.enum_told-in-Milliseconds-1.given.1
+returns-in-Milliseconds c = simp c.in-Milliseconds.is
 
 pub returns-in-StartOrSize : goal.returns-in-StartOrSize
-returns-in-StartOrSize c = simp (c.enum_told-in-StartOrSize-1.given.1, ← c.start_fits.ensures)
+returns-in-StartOrSize c = simp (c.in-StartOrSize.is, ← c.start_fits.ensures)

@@ -2,4 +2,4 @@
 use Rattle.refusals.proofs.data_fit.Goals as goal
 
 pub returns-in-UpToLength : goal.returns-in-UpToLength
-returns-in-UpToLength c = simp (c.enum_told-in-UpToLength-1.given.1, ← c.zero_from-in-UpToLength.ensures)
+returns-in-UpToLength c = simp (c.in-UpToLength.is, ← c.zero_from-in-UpToLength.ensures)

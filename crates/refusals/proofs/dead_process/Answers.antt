@@ -4,20 +4,20 @@ use Rattle.refusals.proofs.dead_process.Goals as goal
 
 pub returns-in-Unused : goal.returns-in-Unused
 unfolding dead_process
-returns-in-Unused c = simp c.enum_told-1.given.1
+returns-in-Unused c = simp c.in-Unused.is
 
 pub returns-in-Process : goal.returns-in-Process
 unfolding dead_process
-returns-in-Process c = simp (c.enum_told-in-Process-1.given.1, ← c.code_of.ensures)
+returns-in-Process c = simp (c.in-Process.is, ← c.code_of.ensures)
 
 pub returns-in-Structure : goal.returns-in-Structure
 unfolding dead_process
-returns-in-Structure c = simp c.enum_told-in-Structure-1.given.1
+returns-in-Structure c = simp c.in-Structure.is
 
 pub returns-in-Semaphore : goal.returns-in-Semaphore
 unfolding dead_process
-returns-in-Semaphore c = simp c.enum_told-in-Semaphore-1.given.1
+returns-in-Semaphore c = simp c.in-Semaphore.is
 
 pub returns-in-Ring : goal.returns-in-Ring
 unfolding dead_process
-returns-in-Ring c = simp c.enum_told-in-Ring-1.given.1
+returns-in-Ring c = simp c.in-Ring.is

@@ -2,4 +2,4 @@
 use Rattle.refusals.proofs.is_full.Goals as goal
 
 pub returns-in-Counting : goal.returns-in-Counting
-returns-in-Counting c = simp c.kind-1.given.1
+returns-in-Counting c = simp c.in-Counting.is

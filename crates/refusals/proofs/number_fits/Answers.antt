@@ -2,4 +2,4 @@
 use Rattle.refusals.proofs.number_fits.Goals as goal
 
 pub returns-in-Unused : goal.returns-in-Unused
-returns-in-Unused c = simp c.enum_told-1.given.1
+returns-in-Unused c = simp c.in-Unused.is

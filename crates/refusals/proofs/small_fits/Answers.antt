@@ -2,10 +2,10 @@
 use Rattle.refusals.proofs.small_fits.Goals as goal
 
 pub returns-in-Unused : goal.returns-in-Unused
-returns-in-Unused c = simp c.enum_told-1.given.1
+returns-in-Unused c = simp c.in-Unused.is
 
 pub returns-in-Kind : goal.returns-in-Kind
-returns-in-Kind c = simp (c.enum_told-in-Kind-1.given.1, ← c.within.ensures)
+returns-in-Kind c = simp (c.in-Kind.is, ← c.within.ensures)
 
 pub returns-in-Length : goal.returns-in-Length
-returns-in-Length c = simp (c.enum_told-in-Length-1.given.1, ← c.within-in-Length.ensures)
+returns-in-Length c = simp (c.in-Length.is, ← c.within-in-Length.ensures)

@@ -4,8 +4,8 @@ use Rattle.rings.proofs.collected.Goals as goal
 
 pub returns-in-Nothing : goal.returns-in-Nothing
 unfolding collected collected_from
-returns-in-Nothing c = simp (c.enum_told-1.given.1, ← c.plainly.ensures, ← c.parcel_for-parcel.ensures)
+returns-in-Nothing c = simp (c.in-Nothing.is, ← c.plainly.ensures, ← c.parcel_for-parcel.ensures)
 
 pub returns-in-Bytes : goal.returns-in-Bytes
 unfolding collected collected_from
-returns-in-Bytes c = simp (c.holds-1.given.1, ← c.collected_bytes.ensures, ← c.parcel_for-parcel.ensures)
+returns-in-Bytes c = simp (c.in-Bytes.is, ← c.collected_bytes.ensures, ← c.parcel_for-parcel.ensures)

@@ -10,16 +10,16 @@ returns-then-t-eq0 c = simp (eq-eqb _ _ c.if-t-eq0.true, ← c.plainly.ensures) 
 
 pub returns-then-waits : goal.returns-then-waits
 unfolding got got_by conditionally_got conditionally_got_by
-returns-then-waits c = simp (c.if-waits.true, ne_eqb _ _ c.if-t-eq0.false, c.enum_told-in-Blocked-1.given.1, ← c.get_waits.ensures, ← c.way_out-way.ensures)
+returns-then-waits c = simp (c.if-waits.true, ne_eqb _ _ c.if-t-eq0.false, c.in-Blocked.is, ← c.get_waits.ensures, ← c.way_out-way.ensures)
 
 pub returns-in-Closed : goal.returns-in-Closed
 unfolding got got_by conditionally_got conditionally_got_by
-returns-in-Closed c = simp (c.enum_told-1.given.1, ne_eqb _ _ c.if-t-eq0.false, ← c.plainly-in-Closed.ensures, ← c.way_out-way.ensures) (either_form c.args.waits _)
+returns-in-Closed c = simp (c.in-Closed.is, ne_eqb _ _ c.if-t-eq0.false, ← c.plainly-in-Closed.ensures, ← c.way_out-way.ensures) (either_form c.args.waits _)
 
 pub returns-in-AtOnce : goal.returns-in-AtOnce
 unfolding got got_by conditionally_got conditionally_got_by
-returns-in-AtOnce c = simp (c.way-1.given.1, ne_eqb _ _ c.if-t-eq0.false, ← c.got_through.ensures, ← c.way_out-way.ensures) (either_form c.args.waits _)
+returns-in-AtOnce c = simp (c.in-AtOnce.is, ne_eqb _ _ c.if-t-eq0.false, ← c.got_through.ensures, ← c.way_out-way.ensures) (either_form c.args.waits _)
 
 pub returns-else-waits : goal.returns-else-waits
 unfolding got got_by conditionally_got conditionally_got_by
-returns-else-waits c = simp (c.if-waits.false, ne_eqb _ _ c.if-t-eq0.false, c.enum_told-in-Blocked-1.given.1, ← c.plainly-in-Blocked.ensures, ← c.way_out-way.ensures)
+returns-else-waits c = simp (c.if-waits.false, ne_eqb _ _ c.if-t-eq0.false, c.in-Blocked.is, ← c.plainly-in-Blocked.ensures, ← c.way_out-way.ensures)

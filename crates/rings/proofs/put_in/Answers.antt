@@ -12,20 +12,20 @@ returns-then-waits-t c =
 
 pub returns-then-waits : goal.returns-then-waits
 unfolding put_in put_by conditionally_put conditionally_put_by
-returns-then-waits c = simp (c.if-waits.true, rw c.if-waits.true at c.if-waits-t.false, c.enum_told-in-Blocked-1.given.1, ← c.put_waits.ensures, ← c.way_in-way.ensures)
+returns-then-waits c = simp (c.if-waits.true, rw c.if-waits.true at c.if-waits-t.false, c.in-Blocked.is, ← c.put_waits.ensures, ← c.way_in-way.ensures)
 
 pub returns-in-Closed : goal.returns-in-Closed
 unfolding put_in put_by conditionally_put conditionally_put_by
 returns-in-Closed c =
     let a = c.args in
-    simp (c.enum_told-1.given.1, ← c.plainly-in-Closed.ensures, ← c.way_in-way.ensures) (either_way a.waits (eqb a.t.running 0) _ _ c.if-waits-t.false)
+    simp (c.in-Closed.is, ← c.plainly-in-Closed.ensures, ← c.way_in-way.ensures) (either_way a.waits (eqb a.t.running 0) _ _ c.if-waits-t.false)
 
 pub returns-in-AtOnce : goal.returns-in-AtOnce
 unfolding put_in put_by conditionally_put conditionally_put_by
 returns-in-AtOnce c =
     let a = c.args in
-    simp (c.way-1.given.1, ← c.put_through.ensures, ← c.way_in-way.ensures) (either_way a.waits (eqb a.t.running 0) _ _ c.if-waits-t.false)
+    simp (c.in-AtOnce.is, ← c.put_through.ensures, ← c.way_in-way.ensures) (either_way a.waits (eqb a.t.running 0) _ _ c.if-waits-t.false)
 
 pub returns-else-waits : goal.returns-else-waits
 unfolding put_in put_by conditionally_put conditionally_put_by
-returns-else-waits c = simp (c.if-waits.false, c.enum_told-in-Blocked-1.given.1, ← c.plainly-in-Blocked.ensures, ← c.way_in-way.ensures)
+returns-else-waits c = simp (c.if-waits.false, c.in-Blocked.is, ← c.plainly-in-Blocked.ensures, ← c.way_in-way.ensures)

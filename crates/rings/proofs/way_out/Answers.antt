@@ -4,16 +4,16 @@ use Rattle.rings.proofs.way_out.Goals as goal
 
 pub returns-in-Free : goal.returns-in-Free
 unfolding way_out way_out_of_kind
-returns-in-Free c = simp (c.enum_told-1.given.1, ← c.structure_at-structure.ensures)
+returns-in-Free c = simp (c.in-Free.is, ← c.structure_at-structure.ensures)
 
 pub returns-in-Binary : goal.returns-in-Binary
 unfolding way_out way_out_of_kind
-returns-in-Binary c = simp (c.enum_told-in-Binary-1.given.1, ← c.structure_at-structure.ensures)
+returns-in-Binary c = simp (c.in-Binary.is, ← c.structure_at-structure.ensures)
 
 pub returns-in-Counting : goal.returns-in-Counting
 unfolding way_out way_out_of_kind
-returns-in-Counting c = simp (c.enum_told-in-Counting-1.given.1, ← c.structure_at-structure.ensures)
+returns-in-Counting c = simp (c.in-Counting.is, ← c.structure_at-structure.ensures)
 
 pub returns-in-Ring : goal.returns-in-Ring
 unfolding way_out way_out_of_kind
-returns-in-Ring c = simp (c.kind-1.given.1, ← c.way_out_of_ring.ensures, ← c.structure_at-structure.ensures)
+returns-in-Ring c = simp (c.in-Ring.is, ← c.way_out_of_ring.ensures, ← c.structure_at-structure.ensures)

@@ -2,7 +2,7 @@
 use Rattle.sound.proofs.at_zero.Goals as goal
 
 pub returns-in-Binary : goal.returns-in-Binary
-returns-in-Binary c = simp c.kind-1.given.1
+returns-in-Binary c = simp c.in-Binary.is
 
 pub returns-in-Counting : goal.returns-in-Counting
-returns-in-Counting c = simp c.kind-in-Counting-1.given.1
+returns-in-Counting c = simp c.in-Counting.is

@@ -2,4 +2,4 @@
 use Rattle.sound.proofs.holds_bytes.Goals as goal
 
 pub returns-in-Bytes : goal.returns-in-Bytes
-returns-in-Bytes c = simp c.holds-1.given.1
+returns-in-Bytes c = simp c.in-Bytes.is

@@ -4,16 +4,16 @@ use Rattle.structures.proofs.deleted_at.Goals as goal
 
 pub returns-in-Free : goal.returns-in-Free
 unfolding deleted_at
-returns-in-Free c = simp (c.enum_told-1.given.1, ← c.plainly.ensures, ← c.with_structure-next.ensures, ← c.nothing.ensures)
+returns-in-Free c = simp (c.in-Free.is, ← c.plainly.ensures, ← c.with_structure-next.ensures, ← c.nothing.ensures)
 
 pub returns-in-Binary : goal.returns-in-Binary
 unfolding deleted_at
-returns-in-Binary c = simp (c.enum_told-in-Binary-1.given.1, ← c.plainly-in-Binary.ensures, ← c.with_structure-next.ensures, ← c.nothing.ensures)
+returns-in-Binary c = simp (c.in-Binary.is, ← c.plainly-in-Binary.ensures, ← c.with_structure-next.ensures, ← c.nothing.ensures)
 
 pub returns-in-Counting : goal.returns-in-Counting
 unfolding deleted_at
-returns-in-Counting c = simp (c.enum_told-in-Counting-1.given.1, ← c.plainly-in-Counting.ensures, ← c.with_structure-next.ensures, ← c.nothing.ensures)
+returns-in-Counting c = simp (c.in-Counting.is, ← c.plainly-in-Counting.ensures, ← c.with_structure-next.ensures, ← c.nothing.ensures)
 
 pub returns-in-Ring : goal.returns-in-Ring
 unfolding deleted_at
-returns-in-Ring c = simp (c.kind-1.given.1, ← c.plainly-in-Ring.ensures, ← c.with_ring.ensures, ← c.empty_bay.ensures, ← c.with_structure-next.ensures, ← c.nothing.ensures)
+returns-in-Ring c = simp (c.in-Ring.is, ← c.plainly-in-Ring.ensures, ← c.with_ring.ensures, ← c.empty_bay.ensures, ← c.with_structure-next.ensures, ← c.nothing.ensures)

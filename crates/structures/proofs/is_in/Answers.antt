@@ -2,4 +2,4 @@
 use Rattle.structures.proofs.is_in.Goals as goal
 
 pub returns-in-Ring : goal.returns-in-Ring
-returns-in-Ring c = simp c.kind-1.given.1
+returns-in-Ring c = simp c.in-Ring.is
