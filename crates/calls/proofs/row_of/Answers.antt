@@ -100,6 +100,4 @@ returns-in-23 c = rw (c.uses_nothing-in-23.ensures, c.callers_of-who.ensures, c.
 
 pub returns-in-0 : goal.returns-in-0
 unfolding table row_in row_of
-returns-in-0 c = let x : ℕ = c.args.call in
-    rw (c.uses_nothing-in-0.ensures, c.callers_of-who.ensures)
-    (⊎_elim (λ w. rw w.keys24) (λ w. rw (unknown_above x (above x 23 w.rest.1 w.rest.0))) c.in-0-1.branch)
+returns-in-0 c = ?
