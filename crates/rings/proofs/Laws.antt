@@ -19,7 +19,7 @@ use Rattle.tables.specs.declared.Line.TheVariants.{Getters, Putters}
 use Rattle.tables.specs.Access.{numbered, nobody, process_of, ring_in, with_process, with_ring, with_parcel}
 use Rattle.tables.specs.Lines.{stands, standing, line, waits_at, waiting_at, in_lines_of}
 use Rattle.ready.specs.Ready.{with_place, joins, runner_joins}
-use Rattle.rings.specs.Serving.{lengths_of, length_for, getter_goes, putter_goes, who, in_turn, service, services, turns, entered, served}
+use Rattle.rings.specs.Serving.{lengths_of, length_for, getter_goes, putter_goes, in_turn, service, services, turns, entered, served}
 use Rattle.rings.specs.Rings.{put_through, put_waits, got_from, got_through, reset_in}
 use Rattle.answers.specs.declared.Outcome.TheVariants.{Done, Waits}
 use Rattle.answers.specs.declared.Answer.{Answer}
