@@ -19,7 +19,7 @@ use Rattle.tables.specs.Lines.{line, stands, standing}
 use Rattle.rings.specs.Serving.{getter_can, asked, entering, leaving, service, served}
 use Rattle.rings.specs.Changes.{changed_parcel, changed_parcels, Fit}
 use Rattle.rings.specs.Turns.{Chosen, gets, puts, Turn, nowhere_getting, who_gets, getter_served, parcel_is, none_put, got_bytes, is_putter, who_puts, putter_served, put_bytes, none_got, getter_turn, putter_turn}
-use Rattle.rings.specs.Steps.{served_keeps}
+use Rattle.rings.proofs.Steps.{served_keeps}
 use Rattle.sound.specs.Sentences.{in_no_other_line}
 use Rattle.promises.specs.KeptReady.{fits_as}
 use Rattle.promises.specs.KeptRingsServed.{Serves, serves_service}

@@ -31,8 +31,8 @@ use Rattle.steps.specs.Steps.{replied_by, replied}
 use Rattle.rings.specs.Serving.{entered, served}
 use Rattle.rings.specs.Changes.{Fit, fit_ring}
 use Rattle.rings.specs.Turns.{nowhere_getting, nowhere_putting}
-use Rattle.rings.specs.Steps.{served_structures}
-use Rattle.rings.specs.Calls.{holds_then, holds_still, holds_nothing}
+use Rattle.rings.proofs.Steps.{served_structures}
+use Rattle.rings.proofs.Calls.{holds_then, holds_still, holds_nothing}
 use Rattle.rings.specs.Rings.{put_through, put_waits, put_by, put_in, conditionally_put_by, conditionally_put, got_from, got_through, get_waits, got_by, got as got_in, conditionally_got_by, conditionally_got, reset_in, reset_kind, reset_ring}
 use Rattle.sound.specs.Sound.{kind_at, Settled}
 use Rattle.promises.specs.Changes.{Steady, Apart}
