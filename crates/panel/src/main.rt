@@ -4,7 +4,8 @@
 
 ghost use Rattle.std.specs.Prelude.{◌≤◌};
 
-use libc::{STDIN_FILENO, STDOUT_FILENO};
+use std::io;
+use std::io::Read;
 
 // A round reads at most so many bytes, 910 records, and writes at most as many lines of 40 bytes.
 const ROUND: usize = 65520;
@@ -45,13 +46,11 @@ fn played(state: &mut [u8], input: &[u8], out: &mut [u8]) -> usize {
 }
 
 // The last line, where bytes are left over.
-fn left_over(n: usize) {
+fn left_over(rt: &impl Print, n: usize) -> io::Result<()> {
     if n == 0 {
-        return;
+        return Ok(());
     }
-    io::write_all(STDOUT_FILENO, b"short ");
-    io::print_decimal(STDOUT_FILENO, n as u64);
-    io::write_all(STDOUT_FILENO, b"\n");
+    println!(rt; "short {n}")
 }
 
 // The lesser of two numbers.
@@ -61,20 +60,20 @@ fn least(a: usize, b: usize) -> usize
     if a < b { a } else { b }
 }
 
-fn main() {
+// A round that reads less than it may is the last one: the input has ended.
+fn main(rt: HostRuntime) -> io::Result<()> {
     let mut state = [0u8; 4569];
-    let mut input = [0u8; ROUND];
+    let mut input = Vec::with_capacity(rt.alloc(), ROUND)?;
     let mut out = [0u8; LINES];
     kernel::brombeertor_fresh(&mut state);
-    let mut rounds: u64 = 18446744073709551615;
-    while 0 < rounds {
-        let got = io::read_full(STDIN_FILENO, &mut input);
-        let n = least(played(&mut state, &input[..got], &mut out), LINES);
-        io::write_all(STDOUT_FILENO, &out[..n]);
+    for _ in 0..u64::MAX {
+        input.clear();
+        let got = rt.stdin().take(ROUND as u64).read_to_end(&mut input)?;
+        let n = least(played(&mut state, input.as_slice(), &mut out), LINES);
+        rt.write_all(&out[..n])?;
         if got < ROUND {
-            left_over(got % 72);
-            return;
+            return left_over(&rt, got % 72);
         }
-        rounds -= 1;
     }
+    Ok(())
 }
