@@ -159,11 +159,11 @@ filled members k whole h a =
 -- ---- one entry anew
 
 -- The ways to a list that has x at its number p, if p is from 1 to n, and else is as it was: each is the list with x as number p
-pub anew : {A X Y Z : Type 0} (l : List A) (p n : ℕ) (x : A) {r : List A} → length l ≡ n
-    → (X → (1 ≤ p) × (r ≡ set l (p - 1) x)) → (Y → (n < p) × (r ≡ l)) → (Z → (p < 1) × (r ≡ l)) → X ⊎ (Y ⊎ Z) → r ≡ replaced l p x
-anew l p n x long within past none =
+pub anew : {A : Type 0} (l : List A) (p n : ℕ) (x : A) {r : List A} → length l ≡ n
+    → ((1 ≤ p) × (r ≡ set l (p - 1) x)) ⊎ (((n < p) × (r ≡ l)) ⊎ ((p < 1) × (r ≡ l))) → r ≡ replaced l p x
+anew l p n x long =
     ⊎_elim
-    (λ w. (within w).1 ∙ sym (replaced_at l p x (omega (arith, (within w).0))))
+    (λ w. w.1 ∙ sym (replaced_at l p x (omega (arith, w.0))))
     (⊎_elim
-    (λ w. (past w).1 ∙ sym (replaced_past l p x (omega (arith, (past w).0))))
-    (λ w. (none w).1 ∙ sym (replaced_zero l p x (omega (arith, (none w).0)))))
+    (λ w. w.1 ∙ sym (replaced_past l p x (omega (arith, w.0))))
+    (λ w. w.1 ∙ sym (replaced_zero l p x (omega (arith, w.0)))))

@@ -1,10 +1,10 @@
 -- `calls::row_of` meets its contract: in each arm the number is known, and the table's row with it is the one made there.
-use mathlib.Core.Logic.{⊎_elim}
 use Prim.Native.Nat.{ℕ}
 use Rattle.calls.specs.Calls.{table, row_in, row_of}
 use Rattle.calls.specs.Laws.{unknown_above}
 use Rattle.calls.proofs.Laws.{above}
 use Rattle.calls.proofs.row_of.Goals as goal
+use Rattle.calls.proofs.row_of.Goals.{in-0-1, in_default-1}
 
 pub returns-in-1 : goal.returns-in-1
 unfolding table row_in row_of
@@ -100,6 +100,6 @@ returns-in-23 c = rw (c.uses_nothing-in-23.ensures, c.callers_of-who.ensures, c.
 
 pub returns-in-0 : goal.returns-in-0
 unfolding table row_in row_of
-returns-in-0 c = let x : ℕ = c.args.call in
-    rw (c.uses_nothing-in-0.ensures, c.callers_of-who.ensures)
-    (⊎_elim (λ w. rw w.keys24) (λ w. rw (unknown_above x (above x 23 w.rest.1 w.rest.0))) c.in-0-1.branch)
+returns-in-0 c =
+    let x : ℕ = c.args.call in
+    rw (c.uses_nothing-in-0.ensures, c.callers_of-who.ensures) (elim c.in-0-1.branch [ in-0-1 w ↦ rw w.in-0-1.keys24 | in_default-1 w ↦ rw (unknown_above x (above x 23 w.in_default-1.rest.1 w.in_default-1.rest.0)) ])
