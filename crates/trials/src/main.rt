@@ -3,7 +3,7 @@
 #![tactic(auto)]
 
 use layout::LENGTH;
-use records::Record;
+use records::{DATA, Record};
 use std::io;
 
 // A state as a board keeps it.
@@ -13,25 +13,18 @@ struct State {
 }
 
 // The data of a request: the first l bytes are 1, 2, 3, .. where it brings any.
-fn data_of(call: u8, l: u8) -> [u8; 64] {
-    let mut bytes = [0; 64];
-    if call < 18 {
-        return bytes;
-    }
-    if 19 < call {
-        return bytes;
-    }
-    let mut i: u8 = 0;
-    while i < 64 {
-        if i < l {
+fn data_of(call: u8, l: u8) -> [u8; DATA] {
+    let mut bytes = [0; DATA];
+    if call == 18 || call == 19 {
+        for i in 0..l.min(64) {
             bytes[i as usize] = i + 1;
         }
-        i += 1;
     }
     bytes
 }
 
 // One request: its line is printed.
+#[tactic(auto, using(listing::specs::Laws::lined_within))]
 fn ask(rt: &impl Print, s: State, call: u8, caller: u8, n: u8, l: u8, m: u32) -> io::Result<State> {
     let r = Record {
         what: call,
@@ -42,14 +35,12 @@ fn ask(rt: &impl Print, s: State, call: u8, caller: u8, n: u8, l: u8, m: u32) ->
         bytes: data_of(call, l),
     };
     let mut bytes = s.bytes;
-    let mut request = [0u8; 72];
-    let mut reply = [0u8; 72];
+    let mut request = [0u8; records::LENGTH];
+    let mut reply = [0u8; records::LENGTH];
     records::write(&mut request, r);
     kernel::brombeertor_call(&mut bytes, &request, &mut reply);
     let line = listing::line_for(call, &reply);
-    let text = line.bytes;
-    let end = line.length;
-    rt.write_all(&text[..end])?;
+    rt.write_all(&line.bytes[..line.length])?;
     Ok(State { bytes })
 }
 
@@ -64,10 +55,8 @@ fn ask_often(
     m: u32,
 ) -> io::Result<State> {
     let mut next = s;
-    let mut i = 0;
-    while i < times {
+    for _ in 0..times {
         next = ask(rt, next, call, 0, n, l, m)?;
-        i += 1;
     }
     Ok(next)
 }

@@ -4,6 +4,7 @@
 
 ghost use Rattle.std.specs.Prelude.{◌≤◌, IfOk};
 
+use records::LENGTH;
 use std::alloc::Global;
 use std::fs::File;
 use std::io;
@@ -40,6 +41,7 @@ fn ended(file: &mut impl Read) -> io::Result<bool> {
 }
 
 // One request: 1 for a reply or a line that is not the stored one, else 0.
+#[tactic(auto, using(listing::specs::Laws::lined_within))]
 fn wrong(
     state: &mut [u8],
     request: &[u8],
@@ -48,7 +50,7 @@ fn wrong(
 ) -> io::Result<u32>
     ensures { IfOk result (λ n. n ≤ 1) }
 {
-    let mut reply = [0u8; 72];
+    let mut reply = [0u8; LENGTH];
     kernel::brombeertor_call(state, request, &mut reply);
     if !says(replies, &reply)? {
         return Ok(1);
@@ -57,9 +59,7 @@ fn wrong(
         return Ok(1);
     }
     let line = listing::line_for(request[0], &reply);
-    let text = line.bytes;
-    let n = line.length;
-    Ok(one_unless(says(lines, &text[..n])?))
+    Ok(one_unless(says(lines, &line.bytes[..line.length])?))
 }
 
 // 1 for what is not as it should be, else 0.
@@ -91,16 +91,19 @@ fn stream(
     let mut asked = opened(rt, requests)?;
     let mut answered = opened(rt, replies)?;
     let mut listed = opened(rt, lines)?;
-    let mut state = [0u8; 4569];
+    let mut state = [0u8; layout::LENGTH];
     kernel::brombeertor_fresh(&mut state);
-    let mut request = Vec::with_capacity(rt.alloc(), 72)?;
+    let mut request = Vec::with_capacity(rt.alloc(), LENGTH)?;
     let mut bad: u32 = 0;
     let mut count: u32 = 0;
     let mut over: usize = 0;
     while count < 100000 {
         request.clear();
-        let got = asked.by_ref().take(72).read_to_end(&mut request)?;
-        if got < 72 {
+        let got = asked
+            .by_ref()
+            .take(LENGTH as u64)
+            .read_to_end(&mut request)?;
+        if got < LENGTH {
             over = got;
             break;
         }
