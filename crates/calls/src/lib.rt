@@ -224,7 +224,6 @@ pub fn is_allowed(callers: Callers, caller: u8) -> bool
 }
 
 // Does a request's deed change what rings and parcels hold?
-#[tactic(auto, unfolding(crate::specs::Calls::moves_bytes))]
 pub fn moves_bytes(deed: Deed) -> bool
     ensures { result ≡ moves_bytes deed }
 {

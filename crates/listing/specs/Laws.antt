@@ -2,7 +2,7 @@
 use Rattle.std.specs.Prelude.{ℕ, zero, suc, ◌+◌, ◌-◌, ◌/◌, ◌%◌, ◌^◌, ◌≤◌, ◌<◌, ◌≡◌, refl, List, [], ◌∷◌, ◌++◌, ltb, length}
 use Rattle.std.proofs.Common.{append_assoc, append-nil, arith, pow-suc, lt-ltb, le-ltb, ltb-false, length-append}
 use Rattle.std.proofs.Math.Seq.{set-append_seam}
-use Rattle.basics.specs.Tests.{Test, test, holds, fails}
+use Rattle.basics.specs.Tests.{test, holds, fails}
 use Rattle.records.specs.declared.Record.{Record}
 use Rattle.records.specs.Records.{reply}
 use Rattle.listing.specs.declared.Line.{Line}

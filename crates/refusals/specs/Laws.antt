@@ -1,6 +1,6 @@
 -- Which refusal is given, over any list of codes: the number given applies, none before it does, and 0 is given exactly when none does.
 use Rattle.std.specs.Prelude.{ℕ, zero, suc, ◌<◌, ◌≤◌, ◌≡◌, refl, Bool, true, false, cond, not, List, [], ◌∷◌, ◌++◌, eqb, ltb, get_or}
-use Rattle.std.proofs.Common.{sym, ◌∙◌, true≢false, arith, eq-eqb, ne_eqb, eqb-true, ltb-true}
+use Rattle.std.proofs.Common.{subst, sym, ◌∙◌, true≢false, arith, eq-eqb, ne_eqb, eqb-true, ltb-true}
 use Rattle.basics.specs.Tests.{test, holds, fails}
 use Rattle.arrivals.specs.Order.{has, ahead}
 use Rattle.arrivals.specs.Listed.{has_behind}
@@ -35,14 +35,20 @@ itself k l i g = let z : i < 0 = rw (eq-eqb k k refl) at g in omega arith
 -- No code that stands before it does
 pub none_before : (f : ℕ → Bool) (l : List ℕ) (i : ℕ) → i < ahead (first_that f l) l → f (get_or l i 0) ≡ false
 none_before f [] i h = absurd (omega arith)
-none_before f (k ∷ l) zero h = elim (test (f k)) [ holds e ↦ absurd (itself k l 0 (rw e at h)) | fails e ↦ e ]
+none_before f (k ∷ l) zero h =
+    elim (test (f k)) [
+      | holds e ↦ (let s : first_that f (k ∷ l) ≡ k = rw e in absurd (itself k l 0 (subst (λ x. 0 < ahead x (k ∷ l)) s h)))
+      | fails e ↦ e
+    ]
 none_before f (k ∷ l) (suc i) h =
     elim (test (f k)) [
-      | holds e ↦ absurd (itself k l (suc i) (rw e at h))
+      | holds e ↦ (let s : first_that f (k ∷ l) ≡ k = rw e in absurd (itself k l (suc i) (subst (λ x. suc i < ahead x (k ∷ l)) s h)))
       | fails e ↦
+          let s : first_that f (k ∷ l) ≡ first_that f l = rw e in
+          let g : suc i < ahead (first_that f l) (k ∷ l) = subst (λ x. suc i < ahead x (k ∷ l)) s h in
           elim (test (eqb k (first_that f l))) [
-            | holds q ↦ (let z : suc i < 0 = rw (e, q) at h in absurd (omega arith))
-            | fails q ↦ none_before f l i (let z : suc i < suc (ahead (first_that f l) l) = rw (e, q) at h in omega arith)
+            | holds q ↦ (let z : suc i < 0 = rw q at g in absurd (omega arith))
+            | fails q ↦ none_before f l i (let z : suc i < suc (ahead (first_that f l) l) = rw q at g in omega arith)
           ]
     ]
 

@@ -1,10 +1,9 @@
 -- The lines: each is a view of the one arrival order.
 use Rattle.std.specs.Prelude.{ℕ, suc, ◌-◌, List, [], ◌∷◌, ◌++◌, Bool, false, cond, eqb, leb, ltb, length, replicate}
-use Rattle.arrivals.specs.Order.{keep, first}
+use Rattle.arrivals.specs.Order.{keep}
 use Rattle.tables.specs.declared.Tables.{Tables}
 use Rattle.tables.specs.declared.Process.{Process}
 use Rattle.tables.specs.declared.Place.{Place}
-use Rattle.tables.specs.declared.Place.TheVariants.{Ready, Parked}
 use Rattle.tables.specs.declared.Line.{Line}
 use Rattle.tables.specs.declared.Line.TheVariants as lines
 use Rattle.tables.specs.Numbers.{code, spot}

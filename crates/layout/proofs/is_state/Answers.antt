@@ -11,5 +11,5 @@ returns-then-s-ne-LENGTH c = sym (is_state_short c.args.s.now c.if-s-ne-LENGTH.t
 pub returns : goal.returns
 returns c =
     let s = c.args.s.now in
-    let bytes : Bytes s = λ i. omega (arith, c.shared_slice_known-1.given i) in
+    let bytes : Bytes s = λ i. omega (arith, c.type_inv.s i) in
     rw (c.processes_kept.ensures, c.structures_kept.ensures, c.holdings_kept.ensures) (sym (is_state_kept s c.if-s-ne-LENGTH.false bytes))

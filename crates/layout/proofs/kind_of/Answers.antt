@@ -1,6 +1,7 @@
 -- `layout::kind_of` meets its contract: each return is the definition at the tests on the way.
 use Rattle.layout.specs.Layout.{kind_of}
-use borrow.Author.Tests.{ne_eqb}
+use Rattle.std.proofs.Common.{arith}
+use Rattle.std.proofs.lemmas.Bool.Decides.{nat_tests}
 use Rattle.layout.proofs.kind_of.Goals as goal
 
 pub returns-in-1 : goal.returns-in-1
@@ -17,4 +18,4 @@ returns-in-3 c = simp c.in-3.is
 
 pub returns-in_default : goal.returns-in_default
 unfolding kind_of
-returns-in_default c = simp (ne_eqb _ _ c.in_default.rest.1, ne_eqb _ _ c.in_default.rest.0.1, ne_eqb _ _ c.in_default.rest.0.0.1)
+returns-in_default c = grind (arith, nat_tests)

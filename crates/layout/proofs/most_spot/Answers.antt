@@ -1,6 +1,7 @@
 -- `layout::most_spot` meets its contract: each return is the definition at the tests on the way.
 use Rattle.layout.specs.Kept.{most_spot}
-use borrow.Author.Tests.{ne_eqb}
+use Rattle.std.proofs.Common.{arith}
+use Rattle.std.proofs.lemmas.Bool.Decides.{nat_tests}
 use Rattle.layout.proofs.most_spot.Goals as goal
 
 pub returns-in-4 : goal.returns-in-4
@@ -17,4 +18,4 @@ returns-in-6 c = simp c.in-6.is
 
 pub returns-in_default : goal.returns-in_default
 unfolding most_spot
-returns-in_default c = simp (ne_eqb _ _ c.in_default.rest.1, ne_eqb _ _ c.in_default.rest.0.1, ne_eqb _ _ c.in_default.rest.0.0.1)
+returns-in_default c = grind (arith, nat_tests)

@@ -1,6 +1,7 @@
 -- `layout::place_of` meets its contract: each return is the definition at the tests on the way.
 use Rattle.layout.specs.Layout.{place_of}
-use borrow.Author.Tests.{ne_eqb}
+use Rattle.std.proofs.Common.{arith}
+use Rattle.std.proofs.lemmas.Bool.Decides.{nat_tests}
 use Rattle.layout.proofs.place_of.Goals as goal
 
 pub returns-in-1 : goal.returns-in-1
@@ -33,4 +34,4 @@ returns-in-7 c = simp c.in-7.is
 
 pub returns-in_default : goal.returns-in_default
 unfolding place_of
-returns-in_default c = simp (ne_eqb _ _ c.in_default.rest.1, ne_eqb _ _ c.in_default.rest.0.1, ne_eqb _ _ c.in_default.rest.0.0.1, ne_eqb _ _ c.in_default.rest.0.0.0.1, ne_eqb _ _ c.in_default.rest.0.0.0.0.1, ne_eqb _ _ c.in_default.rest.0.0.0.0.0.1, ne_eqb _ _ c.in_default.rest.0.0.0.0.0.0.1)
+returns-in_default c = grind (arith, nat_tests)

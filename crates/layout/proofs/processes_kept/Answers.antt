@@ -17,7 +17,7 @@ pub loop-i-preserved : goal.loop-i-preserved
 loop-i-preserved c =
     let o = c.loop-i in
     let s = c.args.s.now in
-    let bytes : Bytes s = λ i. omega (arith, c.shared_slice_known-1.given i) in
+    let bytes : Bytes s = λ i. omega (arith, c.type_inv.s i) in
     (omega arith, all_to_more _ o.i _ _ o.invariant.1 (c.process_kept-ok.ensures ∙ rw c.number_of-k.ensures (process_told s (processes_at + o.i * 8) bytes (omega arith))))
 
 pub returns : goal.returns

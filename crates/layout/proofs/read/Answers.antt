@@ -1,34 +1,17 @@
-use Prim.Native.Nat.{ℕ, ◌+◌, ◌≤◌}
+use Prim.Native.Nat.{ℕ}
 use mathlib.Core.Path.{◌≡◌, refl, sym, ◌∙◌}
 use mathlib.Core.List.{List}
 use native.Mathlib.Omega.{arith}
 use borrow.Author.Tests.{eq-eqb}
-use lib.ListN.{length, get_or, take, length-set}
+use lib.ListN.{length, length-set}
 use Rattle.tables.specs.declared.Tables.{Tables}
 use Rattle.layout.specs.Pieces.{entries, part}
 use Rattle.layout.specs.Layout.{order_at, state_length, process_in, structure_in, bay_in, parcel_in, tables_of, decode}
 use Rattle.layout.specs.PieceLaws.{part_bytes, entries_more, entries_all}
 use Rattle.layout.specs.Laws.{decode_short, fresh_typed}
 use Rattle.layout.specs.Typed.{Typed}
-use borrow.Author.Rules.{rules}
+use Rattle.layout.proofs.read.Invariants.{ReadTo}
 use Rattle.layout.proofs.read.Goals as goal
-
--- Of a state's bytes s, the first p processes with their parcels and their places of the order, n structures and b bays are read into t
-record ReadTo (s : List ℕ) (t : Tables) (p n b : ℕ) : Type 0 where
-  most-processes : p ≤ 32
-  most-structures : n ≤ 24
-  most-bays : b ≤ 8
-  running : t.running ≡ get_or s 0 0
-  order_long : length t.order ≡ 32
-  order : take p t.order ≡ entries p (λ i. get_or s (order_at + i) 0)
-  processes_long : length t.processes ≡ 32
-  processes : take p t.processes ≡ entries p (process_in s)
-  parcels_long : length t.parcels ≡ 32
-  parcels : take p t.parcels ≡ entries p (parcel_in s)
-  structures_long : length t.structures ≡ 24
-  structures : take n t.structures ≡ entries n (structure_in s)
-  rings_long : length t.rings ≡ 8
-  rings : take b t.rings ≡ entries b (bay_in s)
 
 -- With all of them t is what the bytes tell
 read_all : (s : List ℕ) (t : Tables) → length s ≡ state_length → ReadTo s t 32 24 8 → t ≡ tables_of s
@@ -45,18 +28,14 @@ pub returns-then-s-ne-LENGTH : goal.returns-then-s-ne-LENGTH
 returns-then-s-ne-LENGTH c =
     c.fresh-t.ensures ∙ sym (decode_short c.args.s.now c.if-s-ne-LENGTH.true)
 
-shared-slice-read-t :
-    tie.Need-shared-slice-read-t invariant-loop decreases-loop invariant-loop2 decreases-loop2 invariant-loop3 decreases-loop3
-shared-slice-read-t c = search rules
-
 pub loop-i-init : goal.loop-i-init
 unfolding entries
 loop-i-init c =
     let typed : Typed c.fresh-t.result = rw c.fresh-t.ensures fresh_typed in
     record {
-      most-processes = omega arith;
-      most-structures = omega arith;
-      most-bays = omega arith;
+      most_processes = omega arith;
+      most_structures = omega arith;
+      most_bays = omega arith;
       running = refl;
       order_long = typed.order_long;
       order = refl;
@@ -70,35 +49,15 @@ loop-i-init c =
       rings = refl;
     }
 
-shared-slice-read-t-2 :
-    tie.Need-shared-slice-read-t-2 invariant-loop decreases-loop invariant-loop2 decreases-loop2 invariant-loop3 decreases-loop3
-shared-slice-read-t-2 c = search rules
-
-process-from-requires :
-    tie.Need-process-from-requires invariant-loop decreases-loop invariant-loop2 decreases-loop2 invariant-loop3 decreases-loop3
-process-from-requires c κs = search rules
-
-element-set-from-t :
-    tie.Need-element-set-from-t invariant-loop decreases-loop invariant-loop2 decreases-loop2 invariant-loop3 decreases-loop3
-element-set-from-t c = search rules
-
-parcel-from-requires :
-    tie.Need-parcel-from-requires invariant-loop decreases-loop invariant-loop2 decreases-loop2 invariant-loop3 decreases-loop3
-parcel-from-requires c κs = search rules
-
-element-set-from-t-2 :
-    tie.Need-element-set-from-t-2 invariant-loop decreases-loop invariant-loop2 decreases-loop2 invariant-loop3 decreases-loop3
-element-set-from-t-2 c = search rules
-
 pub loop-i-preserved : goal.loop-i-preserved
 unfolding process_in parcel_in
 loop-i-preserved c =
     let o = c.loop-i in
     let v = o.invariant in
     record {
-      most-processes = omega arith;
-      most-structures = v.most-structures;
-      most-bays = v.most-bays;
+      most_processes = omega arith;
+      most_structures = v.most_structures;
+      most_bays = v.most_bays;
       running = v.running;
       order_long = simp length-set v.order_long;
       order = entries_more _ o.t.order o.i _ (omega (arith, v.order_long)) v.order refl;
@@ -117,31 +76,15 @@ loop-i-2-init c =
     let all : c.loop-i.i ≡ 32 = omega arith in
     rw all at c.loop-i.invariant
 
-mul-structure-from :
-    tie.Need-overflow-mul-structure-from invariant-loop decreases-loop invariant-loop2 decreases-loop2 invariant-loop3 decreases-loop3
-mul-structure-from c = search rules
-
-add-structure-from :
-    tie.Need-overflow-add-structure-from invariant-loop decreases-loop invariant-loop2 decreases-loop2 invariant-loop3 decreases-loop3
-add-structure-from c = search rules
-
-structure-from-requires :
-    tie.Need-structure-from-requires invariant-loop decreases-loop invariant-loop2 decreases-loop2 invariant-loop3 decreases-loop3
-structure-from-requires c κs = search rules
-
-element-set-from-t-3 :
-    tie.Need-element-set-from-t-3 invariant-loop decreases-loop invariant-loop2 decreases-loop2 invariant-loop3 decreases-loop3
-element-set-from-t-3 c = search rules
-
 pub loop-i-2-preserved : goal.loop-i-2-preserved
 unfolding structure_in
 loop-i-2-preserved c =
     let o = c.loop-i-2 in
     let v = o.invariant in
     record {
-      most-processes = v.most-processes;
-      most-structures = omega arith;
-      most-bays = v.most-bays;
+      most_processes = v.most_processes;
+      most_structures = omega arith;
+      most_bays = v.most_bays;
       running = v.running;
       order_long = v.order_long;
       order = v.order;
@@ -160,19 +103,15 @@ loop-i-3-init c =
     let all : c.loop-i-2.i ≡ 24 = omega arith in
     rw all at c.loop-i-2.invariant
 
-element-set-from-t-4 :
-    tie.Need-element-set-from-t-4 invariant-loop decreases-loop invariant-loop2 decreases-loop2 invariant-loop3 decreases-loop3
-element-set-from-t-4 c = search rules
-
 pub loop-i-3-preserved : goal.loop-i-3-preserved
 unfolding bay_in
 loop-i-3-preserved c =
     let o = c.loop-i-3 in
     let v = o.invariant in
     record {
-      most-processes = v.most-processes;
-      most-structures = v.most-structures;
-      most-bays = omega arith;
+      most_processes = v.most_processes;
+      most_structures = v.most_structures;
+      most_bays = omega arith;
       running = v.running;
       order_long = v.order_long;
       order = v.order;

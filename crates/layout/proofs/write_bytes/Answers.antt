@@ -18,21 +18,16 @@ returns-then-s-ne-LENGTH c = rw (ne_eqb (length c.args.s.now) state_length c.if-
 pub returns : goal.returns
 unfolding bytes_to held_bytes
 returns c =
-    let parcels = c.before.before in
-    let rings = parcels.before.before.before.before in
-    let holdings = rings.before.before.before.before in
-    let bays = holdings.before.before.before.before in
-    let start = bays.before.before.before.before in
-    let s = start.args.s.now in
-    let long : length s ≡ state_length = bays.before.before.if1.false in
-    let r : length start.args.rings ≡ 8 = search (len_map, rules) in
-    let p : length start.args.parcels ≡ 32 = search (len_map, rules) in
+    let s = c.args.s.now in
+    let long : length s ≡ state_length = c.if-s-ne-LENGTH.false in
+    let r : length c.args.rings ≡ 8 = search (len_map, rules) in
+    let p : length c.args.parcels ≡ 32 = search (len_map, rules) in
     let all =
     begun_more _ _ 2048
     (begun_more _ _ 2048
     (begun_more _ _ 64
-    (begun_more _ _ 48 (begun_none s bays_at) (bays_size _ r) (omega arith) bays.write-bays.ensures)
-    (holdings_size _ p) (omega arith) holdings.write-holdings.ensures)
-    (ring_bytes_size _ (rings_typed start.args.rings _ start.well-formed.1.0) r) (omega arith) rings.write-ring-bytes.ensures)
-    (parcel_bytes_size _ (parcels_typed start.args.parcels _ start.well-formed.1.1.0) p) (omega arith) parcels.write-parcel-bytes.ensures in
+    (begun_more _ _ 48 (begun_none s bays_at) (bays_size _ r) (omega arith) c.write_bays.ensures)
+    (holdings_size _ p) (omega arith) c.write_holdings.ensures)
+    (ring_bytes_size _ (rings_typed c.args.rings _ c.well_formed.1.0) r) (omega arith) c.write_ring_bytes.ensures)
+    (parcel_bytes_size _ (parcels_typed c.args.parcels _ c.well_formed.1.1.0) p) (omega arith) c.write_parcel_bytes.ensures in
     rw (eq-eqb (length s) state_length long) (begun_end all (omega arith))

@@ -13,7 +13,7 @@ use Rattle.layout.proofs.write_parcel_bytes.Goals as goal
 pub loop-i-init : goal.loop-i-init
 loop-i-init c =
     let long : length c.args.parcels ≡ 32 = search (len_map, rules) in
-    (search rules, search rules, long, written_none _ _ _ _ _ (omega arith) (parcel_wide c.args.parcels (parcels_typed c.args.parcels _ c.before.well-formed.1.0)))
+    (search rules, search rules, long, written_none _ _ _ _ _ (omega arith) (parcel_wide c.args.parcels (parcels_typed c.args.parcels _ c.well_formed.1.0)))
 
 pub slice_bounds-copy_in-end : goal.slice_bounds-copy_in-end
 slice_bounds-copy_in-end c =

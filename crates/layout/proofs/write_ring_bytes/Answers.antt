@@ -13,7 +13,7 @@ use Rattle.layout.proofs.write_ring_bytes.Goals as goal
 pub loop-i-init : goal.loop-i-init
 loop-i-init c =
     let long : length c.args.rings ≡ 8 = search (len_map, rules) in
-    (search rules, search rules, long, written_none _ _ _ _ _ (omega arith) (ring_wide c.args.rings (rings_typed c.args.rings _ c.before.well-formed.1.0)))
+    (search rules, search rules, long, written_none _ _ _ _ _ (omega arith) (ring_wide c.args.rings (rings_typed c.args.rings _ c.well_formed.1.0)))
 
 pub slice_bounds-copy_in-end : goal.slice_bounds-copy_in-end
 slice_bounds-copy_in-end c =

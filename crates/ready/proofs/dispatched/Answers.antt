@@ -1,7 +1,6 @@
 -- `ready::dispatched` meets its contract: where nobody goes all stays; else the runner, if one runs, has joined the ready line, and the head runs.
 use Prim.Native.Nat.{◌-◌}
 use mathlib.Core.Path.{◌≡◌, sym, ◌∙◌}
-use mathlib.Core.Logic.{⊎_elim}
 use lib.ListN.{length}
 use native.Mathlib.Omega.{arith}
 use borrow.Author.Rules.{rules}
@@ -10,6 +9,7 @@ use Rattle.tables.specs.declared.Place.TheVariants.{Ready}
 use Rattle.ready.specs.Ready.{joins}
 use Rattle.ready.proofs.Laws.{seated, nobody_joins, one_joins, past_joins, stays, ran}
 use Rattle.ready.proofs.dispatched.Goals as goal
+use Rattle.ready.proofs.dispatched.Goals.{then-goes, else-goes, then-running-ne0+then-running-le32, then-running-ne0+else-running-le32, else-running-ne0}
 
 pub returns : goal.returns
 returns c =
@@ -19,17 +19,16 @@ returns c =
     let k = c.entry_of-k in
     let asked = c.goes in
     let long : length t.processes ≡ 32 = search (len_map, rules) in
-    ⊎_elim
-    (λ w.
-    let way : seated t w.1.order w.1.processes ≡ joins t.running Ready t =
-    ⊎_elim
-    (λ v.
-    let here : k.result ≡ t.running - 1 = omega (arith, v.0.taken, v.2.taken, k.ensures) in
-    rw (v.4, v.5, here) (one_joins t t.order _ t.processes _ v.0.taken v.1.ensures Ready _ _ (omega (arith, v.2.taken, long)) (rw here at v.3.ensures)))
-    (⊎_elim
-    (λ v. rw (v.3, v.4) (past_joins t t.order _ t.processes _ v.0.taken v.1.ensures Ready (omega (arith, v.2.left, long))))
-    (λ v. rw (v.1, v.2) (nobody_joins _ Ready t v.0.left)))
-    w.1.came in
-    rw (w.3, w.4, w.5) (ran t _ _ _ _ _ long head.ensures i.ensures k.ensures _ _ _ way (sym asked.ensures ∙ w.0.taken) w.2.ensures))
-    (λ w. rw (w.1, w.2, w.3) (stays t _ _ _ _ _ long head.ensures i.ensures k.ensures (sym asked.ensures ∙ w.0.left)))
-    c.if-goes.branch
+    elim c.if-goes.branch [
+      | then-goes w ↦
+          let way : seated t w.if-running-ne0.order w.if-running-ne0.processes ≡ joins t.running Ready t =
+          elim w.if-running-ne0.branch [
+            | then-running-ne0+then-running-le32 v ↦
+                let here : k.result ≡ t.running - 1 = omega (arith, v.if-running-ne0.true, v.if-running-le32.true, k.ensures) in
+                rw (v.order-is, v.processes-is, here) (one_joins t t.order _ t.processes _ v.if-running-ne0.true v.moved_last-moved.ensures Ready _ _ (omega (arith, v.if-running-le32.true, long)) (rw here at v.placed-back.ensures))
+            | then-running-ne0+else-running-le32 v ↦ rw (v.order-is, v.processes-is) (past_joins t t.order _ t.processes _ v.if-running-ne0.true v.moved_last-moved.ensures Ready (omega (arith, v.if-running-le32.false, long)))
+            | else-running-ne0 v ↦ rw (v.order-is, v.processes-is) (nobody_joins _ Ready t v.if-running-ne0.false)
+          ] in
+          rw (w.running-is, w.order-is, w.processes-is) (ran t _ _ _ _ _ long head.ensures i.ensures k.ensures _ _ _ way (sym asked.ensures ∙ w.if-goes.true) w.placed-up.ensures)
+      | else-goes w ↦ rw (w.running-is, w.order-is, w.processes-is) (stays t _ _ _ _ _ long head.ensures i.ensures k.ensures (sym asked.ensures ∙ w.if-goes.false))
+    ]
