@@ -7,7 +7,7 @@ use records::{DATA, Record};
 use std::io;
 
 // A state as a board keeps it.
-#[derive(Clone, Copy)]
+#[derive(Drop)]
 struct State {
     bytes: [u8; LENGTH],
 }
