@@ -114,8 +114,11 @@ given_listed : (f : ℕ → Bool) (l : List ℕ) → (first_that f l ≡ 0 → �
 given_listed f [] h = absurd (h refl)
 given_listed f (k ∷ l) h =
     elim (test (f k)) [
-      | holds e ↦ rw (e, eq-eqb k k refl)
-      | fails e ↦ rw e (elim (test (eqb k (first_that f l))) [ holds q ↦ rw q | fails q ↦ rw q (given_listed f l (λ z. h (rw e z))) ])
+      | holds e ↦ (let s : first_that f (k ∷ l) ≡ k = rw e in subst (λ x. has x (k ∷ l) ≡ true) (sym s) (rw (eq-eqb k k refl)))
+      | fails e ↦
+          let s : first_that f (k ∷ l) ≡ first_that f l = rw e in
+          let behind : has (first_that f l) l ≡ true = given_listed f l (λ z. h (s ∙ z)) in
+          subst (λ x. has x (k ∷ l) ≡ true) (sym s) (elim (test (eqb k (first_that f l))) [ holds q ↦ rw q | fails q ↦ rw q behind ])
     ]
 
 module _ (s q p : List ℕ) where

@@ -262,16 +262,16 @@ module _ {moved : Bool} {p : ℕ} {q : Process} {r : ℕ} {t : Tables} (steady :
 
   -- Each is listed as often as before, and the zeros stand first
   counts : (x : ℕ) → count x (order_as moved p t.order) ≡ count x t.order
-  counts x = elim moved [ true ↦ count_moved x p t.order | false ↦ refl ]
+  counts x = elim moved as (λ k. count x (order_as k p t.order) ≡ count x t.order) [ true ↦ count_moved x p t.order | false ↦ refl ]
 
   zeros : zeros_first (order_as moved p t.order) ≡ true
-  zeros = elim moved [ true ↦ zeros_moved p t.order steady.settled.zeros c.live.some | false ↦ steady.settled.zeros ]
+  zeros = elim moved as (λ k. zeros_first (order_as k p t.order) ≡ true) [ true ↦ zeros_moved p t.order steady.settled.zeros c.live.some | false ↦ steady.settled.zeros ]
 
   -- A line in which p stands neither before nor after is as it was
   lines_stay : (x : Line) → stands x (place_at t.processes p) ≡ false → stands x (place_at (replaced t.processes p q) p) ≡ false → line x after ≡ line x t
   unfolding line
   lines_stay x was is =
-      elim moved [
+      elim moved as (λ k. line x (changed_to k p q r t) ≡ line x t) [
         | true ↦ stays_moved (standing x t.processes) (standing x (replaced t.processes p q)) p (agree x) t.order was is
         | false ↦ stays (standing x t.processes) (standing x (replaced t.processes p q)) p (agree x) t.order (is ∙ sym was)
       ]
@@ -321,7 +321,7 @@ module _ {moved : Bool} {p : ℕ} {q : Process} {r : ℕ} {t : Tables} (steady :
   typed_changed : Typed after
   typed_changed =
       record {
-        order = elim moved [ true ↦ length_moved p t.order ∙ steady.typed.order | false ↦ steady.typed.order ];
+        order = elim moved as (λ k. length (order_as k p t.order) ≡ 32) [ true ↦ length_moved p t.order ∙ steady.typed.order | false ↦ steady.typed.order ];
         processes = length_replaced t.processes p q ∙ steady.typed.processes;
         structures = steady.typed.structures;
         rings = steady.typed.rings;

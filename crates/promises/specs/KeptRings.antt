@@ -130,7 +130,7 @@ settled_fit {t} n b typed s e =
       good = (bay_used n b s e).1;
       once = λ p h. rw (s.listed p h) (listings_most (place_at t.processes p));
       known = λ p h. (rw typed.processes (listed_known p typed s h), rw typed.parcels (listed_known p typed s h));
-      short = λ p. place_short _ _ _ _ (place_at t.processes p) (s.fits p);
+      short = λ p. place_short _ _ (numbered t.processes p nobody) _ (place_at t.processes p) (s.fits p);
       whole = λ p. kept_whole (s.kept p);
     }
 

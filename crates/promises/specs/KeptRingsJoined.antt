@@ -1,7 +1,7 @@
 -- The runner joins a line of a ring: the tables are settled and still again, since it stands behind others or could not be served.
 use Rattle.std.specs.Prelude.{ℕ, ◌+◌, ◌≤◌, ◌≡◌, true, false, List, [], ◌∷◌, ◌++◌, eqb, leb, length}
 use Rattle.std.proofs.Math.Path.{refl, sym, ap}
-use Rattle.std.proofs.Common.{◌∙◌, eqb-true, eq-eqb, ne_eqb}
+use Rattle.std.proofs.Common.{subst, ◌∙◌, eqb-true, eq-eqb, ne_eqb}
 use Rattle.std.proofs.lemmas.Bool.{eqb-false}
 use Rattle.basics.specs.Tests.{test, holds, fails}
 use Rattle.arrivals.specs.Order.{first, count, moved_last}
@@ -124,7 +124,7 @@ module _ (n : ℕ) (place : Place) (parcels : List Parcel) (t : Tables) (typed :
       record {
         live = λ h. ap (λ (z : Process). listings z.place) after_process ∙ waits_live waits ∙ sym (ap listings is_running);
         runs = joined_runs;
-        fits = rw (after_process, after_parcels) fits;
+        fits = subst (λ (z : Process). Fits t.structures t.rings z (parcel_at after.parcels x).holds) (sym after_process) (subst (λ (l : List Parcel). Fits t.structures t.rings (placed (process_of t x) place) (parcel_at l x).holds) (sym after_parcels) fits);
         kept = rw after_parcels kept;
         bays = λ c. rw after_rings (s.bays c);
       }

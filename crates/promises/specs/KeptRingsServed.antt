@@ -25,7 +25,7 @@ use Rattle.ready.specs.Ready.{placed, with_place, joins, released_to, released}
 use Rattle.rings.specs.Serving.{asked, service, served}
 use Rattle.rings.specs.Changes.{released_out, changed, Listed, changed_stays, changed_others, changed_ring, changed_rings, changed_running, changed_structures, changed_parcel, changed_parcels, changed_order, Fit}
 use Rattle.rings.specs.Turns.{Chosen, gets, puts, is_getter, who_gets, ring_left, parcel_filled, getter_served, ring_size, is_putter, who_puts, ring_entered, putter_served, entered_size}
-use Rattle.rings.specs.Steps.{served_rests, served_keeps}
+use Rattle.rings.proofs.Steps.{served_rests, served_keeps}
 use Rattle.sound.specs.Sound.{place_at, kind_at, listings, Runs, Fits, PlaceFits, Kept, none, some, used, Settled, Still}
 use Rattle.promises.specs.KeptRings.{one_ring, bay_used, But, Anew, settled_anew}
 use Rattle.promises.specs.KeptRingsStill.{StillBut, getter_still, putter_still, WaitsAt, getter, putter, waits_live, waits_not_running, waits_apart}

@@ -155,7 +155,7 @@ module _ (t : Tables) (s : SoundTables t) where
         order_range = λ i. omega (arith, order_most i);
         processes_long = s.typed.processes;
         processes_range = every_numbered ProcessTyped nobody t.processes
-            (λ p. record { priority_range = small.priorities p; place_range = place_typed t.structures s.typed.structures _ _ _ (place_at t.processes p) (s.sound.settled.fits p) });
+            (λ p. record { priority_range = small.priorities p; place_range = place_typed t.structures s.typed.structures _ (numbered t.processes p nobody) _ (place_at t.processes p) (s.sound.settled.fits p) });
         structures_long = s.typed.structures;
         structures_range = every_numbered StructureTyped nothing t.structures (λ n. record { kind_range = kind_typed (kind_at t.structures n) (s.sound.settled.values n) });
         rings_long = s.typed.rings;

@@ -31,7 +31,8 @@ use Rattle.structures.specs.Structures.{valued_as, valued_at, valued}
 use Rattle.semaphores.specs.Semaphores.{kind_of, with_kind, value, lowered, raised, has_line, waited_at, waited, conditionally_waited, signalled_at, signalled, conditionally_signalled, all_released, all_signalled}
 use Rattle.rings.specs.Changes.{getting, putting}
 use Rattle.rings.specs.Laws as rule
-use Rattle.rings.specs.Laws.{Next, neither, next, nobody_goes, nobody_yet, getter_next, putter_next}
+use Rattle.rings.specs.Laws.{Next, neither, next}
+use Rattle.rings.proofs.InTurn.{nobody_goes, nobody_yet, getter_next, putter_next}
 use Rattle.arrivals.specs.Listed.{has_here, has_behind}
 use Rattle.rings.specs.Serving.{length_for, who, in_turn, entered, with_moved, served_getter, served_putter, served_as, service, services, turns, served}
 use Rattle.rings.specs.Rings.{put_through, put_waits, put_by, put_in, conditionally_put_by, conditionally_put, got_from, got_through, get_waits, got_by, got, conditionally_got_by, conditionally_got, reset_in, reset_kind, reset_ring, collected_bytes, collected_from, collected}

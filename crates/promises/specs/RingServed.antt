@@ -1,6 +1,6 @@
 -- Serving ring n in settled tables: who left its lines, and that their parcels had, or have, the bytes that went in and out.
 use Rattle.std.specs.Prelude.{ℕ, ◌+◌, ◌-◌, ◌≤◌, ◌≡◌, refl, true, false, not, List, [], ◌∷◌, ◌++◌, eqb}
-use Rattle.std.proofs.Common.{sym, ap, ◌∙◌, true≢false, append-nil, append_assoc, arith, eqb-true}
+use Rattle.std.proofs.Common.{subst, sym, ap, ◌∙◌, true≢false, append-nil, append_assoc, arith, eqb-true}
 use Rattle.std.proofs.lemmas.List.Edits.{take-paste}
 use Rattle.std.proofs.lemmas.Bool.{eqb-false}
 use Rattle.basics.specs.Tests.{test, holds, fails}
@@ -19,7 +19,7 @@ use Rattle.tables.specs.Lines.{line, stands, standing}
 use Rattle.rings.specs.Serving.{getter_can, asked, entering, leaving, service, served}
 use Rattle.rings.specs.Changes.{changed_parcel, changed_parcels, Fit}
 use Rattle.rings.specs.Turns.{Chosen, gets, puts, Turn, nowhere_getting, who_gets, getter_served, parcel_is, none_put, got_bytes, is_putter, who_puts, putter_served, put_bytes, none_got, getter_turn, putter_turn}
-use Rattle.rings.specs.Steps.{served_keeps}
+use Rattle.rings.proofs.Steps.{served_keeps}
 use Rattle.sound.specs.Sentences.{in_no_other_line}
 use Rattle.promises.specs.KeptReady.{fits_as}
 use Rattle.promises.specs.KeptRingsServed.{Serves, serves_service}
@@ -139,7 +139,7 @@ module _ (n b : ℕ) (t : Tables) (fit_before : Fit b t) (u : Tables) (fit : Fit
 
     -- Whoever got its bytes before has them still
     got_still : parcels_bytes next s.got_theirs ≡ parcels_bytes u s.got_theirs
-    got_still = parcels_same u next s.got_theirs (λ p h. next_parcels p (λ z. no_getter_again p h (rw (e, z) (has_here x gs))))
+    got_still = parcels_same u next s.got_theirs (λ p h. next_parcels p (λ z. no_getter_again p h (rw e (subst (λ y. has y (x ∷ gs) ≡ true) (sym z) (has_here x gs)))))
 
     -- So it is one more of those who got theirs
     getter_next : Served n b t next

@@ -31,8 +31,8 @@ use Rattle.steps.specs.Steps.{replied_by, replied}
 use Rattle.rings.specs.Serving.{entered, served}
 use Rattle.rings.specs.Changes.{Fit, fit_ring}
 use Rattle.rings.specs.Turns.{nowhere_getting, nowhere_putting}
-use Rattle.rings.specs.Steps.{served_structures}
-use Rattle.rings.specs.Calls.{holds_then, holds_still, holds_nothing}
+use Rattle.rings.proofs.Steps.{served_structures}
+use Rattle.rings.proofs.Calls.{holds_then, holds_still, holds_nothing}
 use Rattle.rings.specs.Rings.{put_through, put_waits, put_by, put_in, conditionally_put_by, conditionally_put, got_from, got_through, get_waits, got_by, got as got_in, conditionally_got_by, conditionally_got, reset_in, reset_kind, reset_ring}
 use Rattle.sound.specs.Sound.{kind_at, Settled}
 use Rattle.promises.specs.Changes.{Steady, Apart}
@@ -189,7 +189,7 @@ one_of what a b rest call h =
 
 -- Its bytes stand behind those that are held
 put_equation : (before moved bytes putters getters after : List ℕ) → moved ≡ before ++ bytes → moved ++ putters ≡ getters ++ after → before ++ (bytes ++ putters) ≡ getters ++ after
-put_equation before moved bytes putters getters after e f = sym (append_assoc before bytes putters) ∙ ap (λ (c : List ℕ). c ++ putters) (sym e) ∙ f
+put_equation before now bytes putters getters later e f = sym (append_assoc before bytes putters) ∙ ap (λ (c : List ℕ). c ++ putters) (sym e) ∙ f
 
 module _ (t : Tables) (r : Record) (steady : Steady t) (long : length r.bytes ≡ 64) (call : (r.what ≡ 18) ⊎ (r.what ≡ 19)) where
   module _ (b : ℕ) (ring : kind_at t.structures r.n ≡ kinds.Ring b) (w : Within r.l (ring_in t b).size) (room : (ring_in t b).held + r.l ≤ (ring_in t b).size) where
@@ -267,11 +267,11 @@ module _ (t : Tables) (r : Record) (steady : Steady t) (long : length r.bytes �
 
 -- Its bytes are the oldest
 get_equation : (l : ℕ) (before moved putters getters after : List ℕ) → moved ≡ drop l before → moved ++ putters ≡ getters ++ after → before ++ putters ≡ (take l before ++ getters) ++ after
-get_equation l before moved putters getters after e f =
+get_equation l before now putters getters later e f =
     ap (λ (c : List ℕ). c ++ putters) (sym (take-append-drop l before))
     ∙ append_assoc (take l before) (drop l before) putters
     ∙ ap (λ (c : List ℕ). take l before ++ c) (ap (λ (c : List ℕ). c ++ putters) (sym e) ∙ f)
-    ∙ sym (append_assoc (take l before) getters after)
+    ∙ sym (append_assoc (take l before) getters later)
 
 module _ (t : Tables) (r : Record) (steady : Steady t) (call : (r.what ≡ 20) ⊎ (r.what ≡ 21)) where
   module _ (b : ℕ) (ring : kind_at t.structures r.n ≡ kinds.Ring b) (w : Within r.l (ring_in t b).size) (enough : r.l ≤ (ring_in t b).held) where

@@ -3,8 +3,7 @@ use Prim.Native.Nat.{ℕ, ◌+◌, ◌-◌, ◌≤◌, ◌<◌}
 use mathlib.Core.Path.{◌≡◌, refl, sym, ◌∙◌}
 use mathlib.Core.Bool.{Bool, true, false, cond, ◌&&◌, true≢false}
 use mathlib.Core.List.{List, [], ◌∷◌, ◌++◌, map, append-nil, append_assoc}
-use lib.Dec.{eqb, leb, ltb}
-use borrow.Author.Tests.{ltb-true, ltb-false}
+use lib.Dec.{eqb, leb}
 use Rattle.basics.specs.Tests.{test, holds, fails}
 use Rattle.arrivals.specs.Order.{first, keep}
 use Rattle.bay.specs.declared.Holding.TheVariants.{Bytes}
@@ -19,13 +18,13 @@ use Rattle.tables.specs.declared.Line.TheVariants.{Getters, Putters}
 use Rattle.tables.specs.Access.{numbered, nobody, process_of, ring_in, with_process, with_ring, with_parcel}
 use Rattle.tables.specs.Lines.{stands, standing, line, waits_at, waiting_at, in_lines_of}
 use Rattle.ready.specs.Ready.{with_place, joins, runner_joins}
-use Rattle.rings.specs.Serving.{lengths_of, length_for, getter_goes, putter_goes, who, in_turn, service, services, turns, entered, served}
+use Rattle.rings.specs.Serving.{lengths_of, length_for, getter_goes, putter_goes, in_turn, service, services, turns, entered, served}
 use Rattle.rings.specs.Rings.{put_through, put_waits, got_from, got_through, reset_in}
 use Rattle.answers.specs.declared.Outcome.TheVariants.{Done, Waits}
 use Rattle.answers.specs.declared.Answer.{Answer}
 use Rattle.answers.specs.declared.Step.{Step}
 use Rattle.answers.specs.Answers.{answer, plain, step}
-use Rattle.rings.specs.Laws.{getter_first, putter_first, nobody_first}
+use Rattle.rings.proofs.InTurn.{getter_first, putter_first, nobody_first}
 use native.Mathlib.Omega.{arith}
 use native.Mathlib.Numerals.{add-one}
 use lib.ListN.{length, take, drop, set, get_or, length-map, get_or-map, drop_of_length-le, replicate, replicate-append-replicate}
@@ -46,15 +45,6 @@ pub all_lengths : {A : Type 0} (f : A → ℕ) (ps : List A) (l : List ℕ) (i :
 all_lengths f ps l i e h k = sym (take_all i l (omega arith)) ∙ k ∙ take_all i (map f ps) (rw (length-map ps f) h)
 
 -- ---- a turn of the serving
-
--- Somebody stands within the line
-pub within : (l : List ℕ) (i p : ℕ) → p ≡ first (drop i l) → (p ≡ 0 → ⊥) → i < length l
-within l i p e h = elim (test (ltb i (length l))) [
-  | holds q ↦ ltb-true i (length l) q
-  | fails q ↦
-      let past : length l ≤ i = ltb-false i (length l) q in
-      absurd (h (e ∙ rw (drop_of_length-le l {i = i} past)))
-]
 
 module _ (k gs ps : List ℕ) (size held g q p l : ℕ) (b : Bool) (its : l ≡ length_for k p) where
   -- The code's test is the rule's

@@ -19,7 +19,7 @@ loop-i-init c =
 pub loop-i-preserved : goal.loop-i-preserved
 loop-i-preserved c =
     let known = c.loop-i.invariant in
-    (omega arith, omega arith, simp length-set known.2, one_cleared c.loop-i.auto (take c.args.l c.args.bytes) c.args.l c.loop-i.i known.0 (omega arith) known.3)
+    (omega arith, omega arith, simp length-set known.2, one_cleared c.loop-i.kept (take c.args.l c.args.bytes) c.args.l c.loop-i.i known.0 (omega arith) known.3)
 
 pub returns : goal.returns
 returns c =

@@ -2,7 +2,7 @@
 use mathlib.Core.Path.{◌∙◌}
 use Rattle.tables.specs.Lines.{padded}
 use Rattle.rings.specs.Serving.{turns}
-use Rattle.rings.specs.Laws.{zeros_behind}
+use Rattle.rings.proofs.InTurn.{zeros_behind}
 use Rattle.rings.proofs.turns.Goals as goal
 
 pub returns : goal.returns
