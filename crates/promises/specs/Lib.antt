@@ -25,7 +25,6 @@ pub mod LineCalls
 pub mod Answered
 pub mod SemaphoreSame
 pub mod SemaphoreShown
-pub mod SemaphoreDeedsOf
 pub mod Semaphores
 pub mod NineSignals
 pub mod RingDeeds
@@ -33,8 +32,5 @@ pub mod Rings
 pub mod RingLines
 pub mod RingServed
 pub mod RingRests
-pub mod RingStructures
-pub mod RingTransfers
-pub mod RingDeedsOf
 pub mod RingBytes
 pub mod Heads

@@ -17,4 +17,4 @@ unfolding empty_tested
 returns c =
     let a = c.args.ring in
     let long : length a.bytes ≡ 256 = search rules in
-    laws.empty_bay a.bytes ((eqb a.start 0 && eqb a.size 0) && eqb a.held 0) c.zero_between.result long c.zero_between.ensures
+    laws.empty_bay_lem a.bytes ((eqb a.start 0 && eqb a.size 0) && eqb a.held 0) c.zero_between.result long c.zero_between.ensures

@@ -1,6 +1,6 @@
 -- `sound::sound` meets its contract: each return is the definition at the tests on the way.
 use mathlib.Core.Path.{refl, sym, ◌∙◌}
-use borrow.Author.Tests.{le-leb, lt-leb}
+use borrow.Author.Tests.{le-leb, lt-leb, not-true, not-false}
 use Rattle.sound.proofs.Laws as laws
 use Rattle.sound.proofs.sound.Goals as goal
 
@@ -59,7 +59,7 @@ returns-then-not-bays c =
     (sym (le-leb t.running 32 c.if-running-gt32.false))
     (sym (c.if-not-processes_fit.false) ∙ laws.processes_told t _ bays.result.held bays.ensures.1 c.processes_fit.ensures)
     (sym (c.if-not-values_fit.false) ∙ c.values_fit.ensures)
-    (sym (c.if-not-bays.true) ∙ bays.ensures.0)
+    (sym (not-true bays.result.fit c.if-not-bays.true) ∙ bays.ensures.0)
     refl
 
 pub returns : goal.returns
@@ -71,5 +71,5 @@ returns c =
     (sym (le-leb t.running 32 c.if-running-gt32.false))
     (sym (c.if-not-processes_fit.false) ∙ laws.processes_told t _ bays.result.held bays.ensures.1 c.processes_fit.ensures)
     (sym (c.if-not-values_fit.false) ∙ c.values_fit.ensures)
-    (sym (c.if-not-bays.false) ∙ bays.ensures.0)
+    (sym (not-false bays.result.fit c.if-not-bays.false) ∙ bays.ensures.0)
     (laws.still_told t _ _ bays.ensures.1 bays.ensures.2 c.still.ensures)

@@ -5,13 +5,13 @@ use Rattle.rings.specs.Serving.{asked}
 use Prim.Native.Nat.{ℕ, ◌+◌}
 use mathlib.Core.Path.{◌≡◌, sym, ap, ◌∙◌}
 use mathlib.Core.Bool.{true, and-true}
-use mathlib.Core.Logic.{⊎_elim}
 use native.Mathlib.Omega.{arith}
 use lib.ListN.{length, get_or}
 use Rattle.basics.specs.Lists.{len_map}
 use Rattle.sound.proofs.Laws as laws
 use borrow.Author.Rules.{rules}
 use Rattle.sound.proofs.still.Goals as goal
+use Rattle.sound.proofs.still.Goals.{then-is_ring, else-is_ring}
 
 pub returns-then-nobody_at_rings : goal.returns-then-nobody_at_rings
 returns-then-nobody_at_rings c =
@@ -37,16 +37,16 @@ loop-i-preserved c =
       omega arith,
       l.invariant.1,
       l.invariant.2,
-      ⊎_elim
-          (λ w. rw w.15 (laws.turn _ l.i l.ok w.14.result l.invariant.3
-          (laws.rests_turn a.processes a.structures a.sizes a.held _ _ (l.i + 1) is (sym c.is_ring.ensures ∙ w.0.taken)
-          (laws.amount_seen a.sizes w.1.result _ _ sizes w.2.ensures w.3.ensures w.1.ensures)
-          (laws.amount_seen a.held w.1.result _ _ held w.4.ensures w.5.ensures w.1.ensures)
-          (λ z. w.12.ensures ∙ ap asked (sym (laws.head_entry 5 a.processes a.order (l.i + 1) _ _ _ (omega arith) processes getter z w.8.ensures)))
-          (λ z. w.13.ensures ∙ ap asked (sym (laws.head_entry 6 a.processes a.order (l.i + 1) _ _ _ (omega arith) processes putter z w.10.ensures)))
-          w.14.ensures)))
-          (λ w. rw w.1 (sym (and-true l.ok) ∙ laws.turn _ l.i l.ok true l.invariant.3 (laws.rests_other a.processes a.structures a.sizes a.held _ _ (l.i + 1) is (sym c.is_ring.ensures ∙ w.0.left))))
-          c.if-is_ring.branch,
+      elim c.if-is_ring.branch [
+        | then-is_ring w ↦ rw w.ok-is (laws.turn _ l.i l.ok w.still_fits-ok.result l.invariant.3
+            (laws.rests_turn a.processes a.structures a.sizes a.held _ _ (l.i + 1) is (sym c.is_ring.ensures ∙ w.if-is_ring.true)
+            (laws.amount_seen a.sizes w.bay_of-b.result _ _ sizes w.bay_entry.ensures w.amount_named-size.ensures w.bay_of-b.ensures)
+            (laws.amount_seen a.held w.bay_of-b.result _ _ held w.bay_entry-then-is_ring.ensures w.amount_named-bytes.ensures w.bay_of-b.ensures)
+            (λ z. w.asked_in-wants.ensures ∙ ap asked (sym (laws.head_entry 5 a.processes a.order (l.i + 1) _ _ _ (omega arith) processes getter z w.entry_of.ensures)))
+            (λ z. w.asked_in-brings.ensures ∙ ap asked (sym (laws.head_entry 6 a.processes a.order (l.i + 1) _ _ _ (omega arith) processes putter z w.entry_of-then-is_ring.ensures)))
+            w.still_fits-ok.ensures))
+        | else-is_ring w ↦ rw w.ok-is (sym (and-true l.ok) ∙ laws.turn _ l.i l.ok true l.invariant.3 (laws.rests_other a.processes a.structures a.sizes a.held _ _ (l.i + 1) is (sym c.is_ring.ensures ∙ w.if-is_ring.false)))
+      ],
     )
 
 pub returns : goal.returns

@@ -19,8 +19,8 @@ use Rattle.promises.specs.Answered.{seen, not_among, of_event}
 use Rattle.promises.specs.LineCalls.{ring_calls}
 use Rattle.promises.specs.RingLines.{same_none, same_done}
 use Rattle.promises.specs.RingRests.{calls_at, idle_code, idle_call, same_rests, step_rests, at_ring}
-use Rattle.promises.specs.RingStructures.{created_deed, deleted_deed}
-use Rattle.promises.specs.RingTransfers.{put_deed, conditional_put_deed, get_deed, conditional_get_deed, reset_deed}
+use Rattle.promises.proofs.RingStructures.{created_deed, deleted_deed}
+use Rattle.promises.proofs.RingTransfers.{put_deed, conditional_put_deed, get_deed, conditional_get_deed, reset_deed}
 
 -- ---- an accepted request
 
