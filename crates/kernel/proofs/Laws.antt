@@ -6,7 +6,7 @@ use mathlib.Core.List.{List, ◌++◌}
 use native.Mathlib.Omega.{arith}
 use lib.Dec.{eqb}
 use lib.ListN.{length, drop, replicate, length-append, length-replicate, length-drop}
-use borrow.Author.Tests.{eq-eqb, eqb-true, not-true, not-false}
+use borrow.Author.Tests.{eq-eqb, eqb-true}
 use Rattle.basics.specs.Tests.{test, holds, fails}
 use Rattle.tables.specs.declared.Tables.{Tables}
 use Rattle.answers.specs.declared.Outcome.{Outcome}
@@ -88,14 +88,14 @@ ended x m s p e h v w typed =
     (ap (λ y. y.what) said, v ∙ ap (stored m s) e, w ∙ ap (written_to p) said, rw (← e) typed)
 
 -- The control part alone, and both parts
-pub stored_control : (m : Bool) (s : List ℕ) (u : Tables) → not m ≡ true → control_to s u.running u.order u.processes u.structures ≡ stored m s u
+pub stored_control : (m : Bool) (s : List ℕ) (u : Tables) → m ≡ false → control_to s u.running u.order u.processes u.structures ≡ stored m s u
 unfolding stored
-stored_control m s u h = rw (not-true m h)
+stored_control m s u h = rw h
 
-pub stored_all : (m : Bool) (s : List ℕ) (u : Tables) → not m ≡ false
+pub stored_all : (m : Bool) (s : List ℕ) (u : Tables) → m ≡ true
     → bytes_to (control_to s u.running u.order u.processes u.structures) u.rings u.parcels ≡ stored m s u
 unfolding stored
-stored_all m s u h = rw (not-false m h)
+stored_all m s u h = rw h
 
 module _ (s q p : List ℕ) where
   pub request_wrong : (length q ≡ record_length → ⊥) → Called s q p 39 s p
@@ -109,13 +109,13 @@ module _ (s q p : List ℕ) where
     lengths = record { request = ql; answer = pl }
 
     -- 40 where the bytes are no state
-    pub no_state : {b : Bool} {r : Record} {p' : List ℕ} → b ≡ is_state s → not b ≡ true → r ≡ refusal_reply 40 0 → p' ≡ written_to p r → Called s q p 40 s p'
+    pub no_state : {b : Bool} {r : Record} {p' : List ℕ} → b ≡ is_state s → b ≡ false → r ≡ refusal_reply 40 0 → p' ≡ written_to p r → Called s q p 40 s p'
     no_state {b} {r} is h e w =
-        not_sound lengths (λ t a. is_state_false s (sym is ∙ not-true b h) t a.typed a.bytes) refl refl (w ∙ written p r pl ∙ ap bytes_of e)
+        not_sound lengths (λ t a. is_state_false s (sym is ∙ h) t a.typed a.bytes) refl refl (w ∙ written p r pl ∙ ap bytes_of e)
 
-    module _ (bytes : Bytes s) {b d : Bool} {t : Tables} (is : b ≡ is_state s) (state : not b ≡ false) (reads : t ≡ decode s) (tests : d ≡ sound_b t) where
+    module _ (bytes : Bytes s) {b d : Bool} {t : Tables} (is : b ≡ is_state s) (state : b ≡ true) (reads : t ≡ decode s) (tests : d ≡ sound_b t) where
       stands : encode t ≡ s
-      stands = ap encode reads ∙ is_state_true s (sym is ∙ not-false b state)
+      stands = ap encode reads ∙ is_state_true s (sym is ∙ state)
 
       typed : Typed t
       typed = rw reads (decode_typed s bytes)
@@ -124,19 +124,19 @@ module _ (s q p : List ℕ) where
       lists = lists_long t typed
 
       -- 40 where they are a state that is not sound
-      pub no_sound : {r : Record} {p' : List ℕ} → not d ≡ true → r ≡ refusal_reply 40 0 → p' ≡ written_to p r → Called s q p 40 s p'
+      pub no_sound : {r : Record} {p' : List ℕ} → d ≡ false → r ≡ refusal_reply 40 0 → p' ≡ written_to p r → Called s q p 40 s p'
       no_sound {r} h e w =
           not_sound lengths
           (λ u a.
           true≢false
-          (sym ((decided.sound_decided t lists).sure (rw (same_tables t u typed a.typed (stands ∙ sym a.bytes)) a.sound)) ∙ sym tests ∙ not-true d h))
+          (sym ((decided.sound_decided t lists).sure (rw (same_tables t u typed a.typed (stands ∙ sym a.bytes)) a.sound)) ∙ sym tests ∙ h))
           refl refl (w ∙ written p r pl ∙ ap bytes_of e)
 
       -- Else they are the sound state that was read
-      pub state_held : not d ≡ false → Holds s t
-      state_held h = record { typed = typed; bytes = stands; sound = (decided.sound_decided t lists).yes (sym tests ∙ not-false d h) }
+      pub state_held : d ≡ true → Holds s t
+      state_held h = record { typed = typed; bytes = stands; sound = (decided.sound_decided t lists).yes (sym tests ∙ h) }
 
-      module _ (sound : not d ≡ false) {r : Record} {code : ℕ} (asked : r ≡ record_at q) (refuses : code ≡ refusal t r) where
+      module _ (sound : d ≡ true) {r : Record} {code : ℕ} (asked : r ≡ record_at q) (refuses : code ≡ refusal t r) where
         asked_here : r ≡ record_of q
         asked_here = asked ∙ read_at q ql
 
