@@ -13,7 +13,7 @@ use Rattle.semaphores.specs.Semaphores.{value, lowered}
 use Rattle.sound.specs.Sound.{ValueFits}
 use Rattle.promises.specs.Kept.{both_first}
 use Rattle.promises.specs.Run.{Event}
-use Rattle.promises.specs.Turns.{answered, creates, is_single_release, is_passed, line_before, line_after, kind_before, kind_after, turns, askers, single_releases, releases, lost, is_raised, process_begins, structure_begins}
+use Rattle.promises.specs.Turns.{answered, creates, is_single_release, is_passed, line_before, line_after, kind_before, kind_after, turns, askers, single_releases, releases, is_raised, process_begins, structure_begins}
 use Rattle.promises.specs.SemaphoreDeeds.{Shows, risen, lost_at, StartsAt, DeedAt, rests, passes, joins_line, raises, releases_head, frees_all, begins, ends}
 use Rattle.promises.specs.SemaphoreDeedsKept.{Asked, InTurn, Since, Sum, Sums, asked_at, since, stands, starts_with, sum_at, turned}
 

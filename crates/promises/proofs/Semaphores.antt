@@ -19,7 +19,7 @@ use Rattle.promises.specs.KeptProcesses.{nowhere_stands}
 use Rattle.promises.specs.Kept.{SoundTables, fresh_sound}
 use Rattle.promises.specs.Run.{after_bytes, after_all, run, event, run_sound, over_events}
 use Rattle.promises.specs.Turns.{answered, turns}
-use Rattle.promises.specs.SemaphoreDeedsKept.{since, InTurn, turned, stands as stands_yet, Asked, none_asked, asked_at, starts_with, sum_at, Sums}
+use Rattle.promises.specs.SemaphoreDeedsKept.{since, InTurn, turned, stands as stands_yet, none_asked, asked_at, starts_with, sum_at, Sums}
 use Rattle.promises.proofs.SemaphoreDeedsKept.{turn_kept, all_turns, asked_kept, sum_kept}
 use Rattle.promises.proofs.SemaphoreDeedsOf.{deed_of}
 use Rattle.promises.specs.Semaphores.{asked_over, since_then, sum_over}

@@ -22,7 +22,7 @@ use Rattle.tables.specs.Numbers.{code}
 use Rattle.tables.specs.Access.{numbered, replaced, nobody, process_of, with_process, with_running, with_parcel}
 use Rattle.tables.specs.Lines.{line, stands, standing, ready_line}
 use Rattle.tables.specs.Laws.{numbered_past, numbered_at, length_replaced, replaced_same, replaced_other, replaced_at}
-use Rattle.ready.specs.Ready.{placed, with_place, joins, runner_joins, runs}
+use Rattle.ready.specs.Ready.{placed, with_place, joins, runner_joins}
 use Rattle.ready.specs.Laws.{head_ready}
 use Rattle.processes.specs.Processes.{is_free, lowest_free, free_process, newcomer, created_as, created, gone, deleted_myself, marked, parked, suspended_from, suspended_of, suspended, resumed_from, resumed_of, resumed, with_priority, prioritised_from, prioritised_of, prioritised, ready_has, head_runs, scheduled, stated_of, stated, slept}
 use Rattle.sound.specs.Sound.{place_at, parcel_at, listings, PlaceFits, Fits, Settled}

@@ -23,7 +23,7 @@ use Rattle.rings.specs.Turns.{sides}
 use Rattle.sound.specs.Sound.{place_at, kind_at, parcel_at, listings, Runs, Fits, Kept, Settled, StillAt, Still}
 use Rattle.sound.specs.Decided.{Typed}
 use Rattle.promises.specs.KeptRings.{the_runner, But, Anew, settled_anew}
-use Rattle.promises.specs.KeptRingsStill.{getter_still, putter_still, getter_joins, putter_joins, WaitsAt, getter, putter, waits_live, waits_not_running, waits_apart}
+use Rattle.promises.specs.KeptRingsStill.{getter_still, putter_still, getter_joins, putter_joins, WaitsAt, waits_live, waits_not_running, waits_apart}
 
 -- The runner stands in no line
 running_out : (n : ℕ) → (stands (Getters n) Running ≡ false) × (stands (Putters n) Running ≡ false)

@@ -21,7 +21,7 @@ use Rattle.tables.specs.Lines.{waits_at, waiting_at, in_lines_of}
 use Rattle.tables.specs.Laws.{numbered_zero, length_replaced, replaced_same, replaced_other}
 use Rattle.answers.specs.declared.Step.{Step}
 use Rattle.answers.specs.Answers.{unmoved}
-use Rattle.structures.specs.Structures.{is_in, is_free, free, taken, free_number, free_bay, numbered_as, created_semaphore, created_ring, created, deleted_at, deleted, valued_as, valued_at, valued}
+use Rattle.structures.specs.Structures.{is_in, is_free, taken, free_number, free_bay, numbered_as, created_semaphore, created_ring, created, deleted_at, deleted, valued_as, valued_at, valued}
 use Rattle.structures.specs.Laws.{number_free, bay_free}
 use Rattle.sound.specs.Sound.{place_at, kind_at, bay_of, users, ValueFits, BayFits, Settled}
 use Rattle.sound.specs.Sound as sound

@@ -4,7 +4,7 @@ use mathlib.Core.List.{List, [], ◌++◌}
 use Rattle.tables.specs.declared.Tables.{Tables}
 use Rattle.promises.specs.Run.{Event}
 use Rattle.promises.specs.Turns.{put, got, held}
-use Rattle.promises.specs.RingDeeds.{starts_anew, moves}
+use Rattle.promises.specs.RingDeeds.{starts_anew}
 
 -- The bytes put, and the bytes got, since creation or the last reset, each in its order
 pub record Transferred : Type 0 where

@@ -7,7 +7,6 @@ use Rattle.tables.specs.declared.Kind.TheVariants.{Free, Binary, Counting, Ring}
 use Rattle.refusals.specs.Refusals.{either}
 use Rattle.promises.specs.Run.{Event}
 use Rattle.promises.specs.Turns.{turns, askers, single_releases, releases, lost, process_begins, structure_begins}
-use Rattle.promises.specs.SemaphoreDeeds.{begins}
 
 -- What is counted from some moment on: the single releases at n, and the turns that p has there
 pub record Since : Type 0 where

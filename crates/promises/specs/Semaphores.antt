@@ -2,7 +2,6 @@
 use Rattle.std.specs.Prelude.{ℕ, List}
 use Rattle.tables.specs.Access.{fresh}
 use Rattle.promises.specs.Run.{run, events, counted}
-use Rattle.promises.specs.Turns.{turns}
 use Rattle.promises.specs.SemaphoreDeedsKept.{Since, since, Asked, none_asked, asked_at, Sum, starts_with, sum_at}
 
 -- The single releases at n and the turns of p there, over the requests of `later`, which are put after those of `before`

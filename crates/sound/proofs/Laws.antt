@@ -11,7 +11,7 @@ use lib.ListN.{length, get_or, set, take, drop, replicate, length-map, get_or-ma
 use lib.Seq.{slice, slice-cons, drop-cons, length-take-le, take_all, take-suc, take-suc-set}
 use borrow.Author.Tests.{eq-eqb, ne_eqb, eqb-true, eqb-false, leb-true, leb-false, ltb-true, le-leb, lt-leb}
 use Rattle.basics.specs.Tests.{test, holds, fails}
-use Rattle.arrivals.specs.Order.{one, count, has, keep, first}
+use Rattle.arrivals.specs.Order.{one, count, keep, first}
 use Rattle.arrivals.specs.Listed.{one_same}
 use Rattle.arrivals.specs.Views.{head_of, keep_none}
 use Rattle.bay.specs.declared.Holding.{Holding}

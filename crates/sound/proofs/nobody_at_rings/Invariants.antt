@@ -1,5 +1,4 @@
 -- `sound::nobody_at_rings` meets its contract: a turn tests one process more.
-use Rattle.tables.specs.Access.{nobody}
 use Prim.Native.Nat.{◌-◌, ◌≤◌}
 use mathlib.Core.Path.{◌≡◌}
 use Rattle.sound.specs.Sound.{place_at}
