@@ -1,4 +1,4 @@
-//! Links the kernel's static library, which `rt staticlib kernel` builds. BROMBEERTOR_LIBRARY names its folder where it
+//! Links the kernel's static library, which `bash host/library` builds. BROMBEERTOR_LIBRARY names its folder where it
 //! lies elsewhere.
 
 use std::env;

@@ -1,4 +1,4 @@
-// What the board calls: three functions on buffers that it lends.
+// What the board calls: three functions on buffers that it lends. The crate kernel_c has them once more, for C.
 #![tactic(auto)]
 
 ghost use Rattle.std.specs.Prelude.{◌≡◌};
@@ -15,16 +15,14 @@ use calls::Deed;
 use records::Record;
 
 // How many bytes a state has.
-#[unsafe(no_mangle)]
-pub extern "C" fn brombeertor_state_length() -> usize
+pub fn brombeertor_state_length() -> usize
     ensures { result ≡ state_length }
 {
     layout::LENGTH
 }
 
 // Makes a fresh state: 0, and all bytes zero; of the wrong length 40, and nothing changes.
-#[unsafe(no_mangle)]
-pub extern "C" fn brombeertor_fresh(state: &mut [u8]) -> u32
+pub fn brombeertor_fresh(state: &mut [u8]) -> u32
     ensures { (result ≡ fresh_code state.old) × (state.new ≡ fresh_state state.old) }
 {
     if state.len() != layout::LENGTH {
@@ -100,8 +98,7 @@ fn finished(state: &mut [u8], answer: &mut [u8], step: Step, moves: bool) -> u32
 
 // Carries out a request on a state: the code is returned and stands in the reply. The match on the deed stands in the
 // function that owns the tables: one between would copy them once more.
-#[unsafe(no_mangle)]
-pub extern "C" fn brombeertor_call(state: &mut [u8], request: &[u8], answer: &mut [u8]) -> u32
+pub fn brombeertor_call(state: &mut [u8], request: &[u8], answer: &mut [u8]) -> u32
     ensures { Called state.old request.now answer.old result state.new answer.new }
 {
     if request.len() != records::LENGTH {

@@ -4,54 +4,47 @@
 
 ghost use Rattle.std.specs.Prelude.{◌≤◌};
 
-use libc::{STDIN_FILENO, STDOUT_FILENO};
+use std::io;
+use std::io::Read;
+
+// The bytes of a record.
+const RECORD: usize = records::LENGTH;
 
 // A round reads at most so many bytes, 910 records, and writes at most as many lines of 40 bytes.
-const ROUND: usize = 65520;
+const ROUND: usize = 910 * RECORD;
 
-const LINES: usize = 36400;
+const LINES: usize = 910 * listing::ROOM;
 
-// Copies the first n bytes of a line behind the text so far; answers where the text ends then.
+// Copies a line behind the text so far, as far as there is room; answers where the text ends then.
 fn appended(out: &mut [u8], at: usize, line: listing::Line) -> usize {
-    let n = line.length;
     let mut end = at;
-    let mut i = 0;
-    while i < 40 {
-        if i < n {
-            if end < out.len() {
-                out[end] = line.bytes[i];
-                end += 1;
-            }
+    for b in line.bytes.iter().take(line.length) {
+        if end < out.len() {
+            out[end] = *b;
+            end += 1;
         }
-        i += 1;
     }
     end
 }
 
 // Plays the whole records of the input; answers how many bytes of text they gave.
 fn played(state: &mut [u8], input: &[u8], out: &mut [u8]) -> usize {
-    let mut reply = [0u8; 72];
+    let mut reply = [0u8; RECORD];
     let mut end = 0;
-    let mut i = 0;
-    while i + 72 <= input.len() {
-        let to = i + 72;
-        let request = &input[i..to];
-        kernel::brombeertor_call(&mut *state, request, &mut reply);
-        let line = listing::line_for(input[i], &reply);
-        end = appended(&mut *out, end, line);
-        i = to;
+    let (requests, _) = input.as_chunks::<RECORD>();
+    for request in requests {
+        kernel::brombeertor_call(state, request, &mut reply);
+        end = appended(out, end, listing::line_for(request[0], &reply));
     }
     end
 }
 
 // The last line, where bytes are left over.
-fn left_over(n: usize) {
+fn left_over(rt: &impl Print, n: usize) -> io::Result<()> {
     if n == 0 {
-        return;
+        return Ok(());
     }
-    io::write_all(STDOUT_FILENO, b"short ");
-    io::print_decimal(STDOUT_FILENO, n as u64);
-    io::write_all(STDOUT_FILENO, b"\n");
+    println!(rt; "short {n}")
 }
 
 // The lesser of two numbers.
@@ -61,20 +54,20 @@ fn least(a: usize, b: usize) -> usize
     if a < b { a } else { b }
 }
 
-fn main() {
-    let mut state = [0u8; 4569];
-    let mut input = [0u8; ROUND];
+// A round that reads less than it may is the last one: the input has ended.
+fn main(rt: HostRuntime) -> io::Result<()> {
+    let mut state = [0u8; layout::LENGTH];
+    let mut input = Vec::with_capacity(rt.alloc(), ROUND)?;
     let mut out = [0u8; LINES];
     kernel::brombeertor_fresh(&mut state);
-    let mut rounds: u64 = 18446744073709551615;
-    while 0 < rounds {
-        let got = io::read_full(STDIN_FILENO, &mut input);
-        let n = least(played(&mut state, &input[..got], &mut out), LINES);
-        io::write_all(STDOUT_FILENO, &out[..n]);
+    for _ in 0..u64::MAX {
+        input.clear();
+        let got = rt.stdin().take(ROUND as u64).read_to_end(&mut input)?;
+        let n = least(played(&mut state, input.as_slice(), &mut out), LINES);
+        rt.write_all(&out[..n])?;
         if got < ROUND {
-            left_over(got % 72);
-            return;
+            return left_over(&rt, got % RECORD);
         }
-        rounds -= 1;
     }
+    Ok(())
 }

@@ -1,66 +1,65 @@
-// Plays the request streams of data/ through the extern function and compares every reply, whole, and every line of text
-// with the stored ones. A line for each stream: its name, how many requests it has, how many answers were wrong.
+// Plays the request streams of data/ through the kernel and compares every reply, whole, and every line of text with the
+// stored ones. A line for each stream: its name, how many requests it has, how many answers were wrong.
 #![tactic(auto)]
 
-ghost use Rattle.std.specs.Prelude.{◌≤◌};
+ghost use Rattle.std.specs.Prelude.{◌≤◌, IfOk};
 
-use libc::STDOUT_FILENO;
+use records::LENGTH;
+use std::alloc::Global;
+use std::fs::File;
+use std::io;
+use std::io::{BufReader, Read};
+use std::rt::Files;
+
+// The next byte of a file, if it has one.
+fn next_byte(file: &mut impl Read) -> io::Result<Option<u8>> {
+    file.by_ref().bytes().next().transpose()
+}
 
 // Is this text what the file says next?
-fn says(fd: i32, text: &[u8]) -> bool {
-    let mut next = [0u8; 1];
-    let mut i = 0;
-    while i < text.len() {
-        let got = io::read_full(fd, &mut next);
-        if got != 1 {
-            return false;
+fn says(file: &mut impl Read, text: &[u8]) -> io::Result<bool> {
+    for b in text {
+        if next_byte(file)? != Some(*b) {
+            return Ok(false);
         }
-        if next[0] != text[i] {
-            return false;
-        }
-        i += 1;
     }
-    true
+    Ok(true)
 }
 
 // Is the rest of the lines what n bytes left over give: `short` and their number, or nothing?
-fn says_short(lines: i32, n: usize) -> bool {
+fn says_short(alloc: Global, lines: &mut impl Read, n: usize) -> io::Result<bool> {
     if n == 0 {
-        return true;
+        return Ok(true);
     }
-    if !says(lines, b"short ") {
-        return false;
-    }
-    let mut digits = [0u8; 20];
-    let k = io::decimal(n as u64, &mut digits);
-    if !says(lines, &digits[..k]) {
-        return false;
-    }
-    says(lines, b"\n")
+    let text = format!(in alloc; "short {n}\n")?;
+    says(lines, text.as_bytes())
 }
 
 // Has the file nothing more to say?
-fn ended(fd: i32) -> bool {
-    let mut next = [0u8; 1];
-    io::read_full(fd, &mut next) == 0
+fn ended(file: &mut impl Read) -> io::Result<bool> {
+    Ok(next_byte(file)?.is_none())
 }
 
 // One request: 1 for a reply or a line that is not the stored one, else 0.
-fn wrong(state: &mut [u8], request: &[u8], replies: i32, lines: i32) -> u32
-    ensures { result ≤ 1 }
+#[tactic(auto, using(listing::specs::Laws::lined_within))]
+fn wrong(
+    state: &mut [u8],
+    request: &[u8],
+    replies: &mut impl Read,
+    lines: &mut impl Read,
+) -> io::Result<u32>
+    ensures { IfOk result (λ n. n ≤ 1) }
 {
-    let mut reply = [0u8; 72];
+    let mut reply = [0u8; LENGTH];
     kernel::brombeertor_call(state, request, &mut reply);
-    if !says(replies, &reply) {
-        return 1;
+    if !says(replies, &reply)? {
+        return Ok(1);
     }
-    if request.len() < 1 {
-        return 1;
+    if request.is_empty() {
+        return Ok(1);
     }
     let line = listing::line_for(request[0], &reply);
-    let text = line.bytes;
-    let n = line.length;
-    one_unless(says(lines, &text[..n]))
+    Ok(one_unless(says(lines, &line.bytes[..line.length])?))
 }
 
 // 1 for what is not as it should be, else 0.
@@ -71,65 +70,79 @@ fn one_unless(right: bool) -> u32
 }
 
 // A number, with a byte in front of it.
-fn print(before: u8, x: u32) {
-    let front = [before; 1];
-    io::write_all(STDOUT_FILENO, &front);
-    io::print_decimal(STDOUT_FILENO, x as u64);
+fn print(rt: &impl Print, before: u8, x: u32) -> io::Result<()> {
+    rt.write_all(&[before])?;
+    print!(rt; "{x}")
+}
+
+// A file that is read from its start, through a buffer.
+fn opened<R: Files + AllocGlobal>(rt: &R, path: &str) -> io::Result<BufReader<R::File>> {
+    BufReader::new(rt.alloc(), File::open(rt, path)?)
 }
 
 // A stream: its requests one after the other on a fresh panel.
-fn stream(name: &[u8], requests: &[u8], replies: &[u8], lines: &[u8]) {
-    let asked = os::open_read(requests);
-    let answered = os::open_read(replies);
-    let listed = os::open_read(lines);
-    let mut state = [0u8; 4569];
+fn stream(
+    rt: &(impl Files + AllocGlobal + Print),
+    name: &[u8],
+    requests: &str,
+    replies: &str,
+    lines: &str,
+) -> io::Result<()> {
+    let mut asked = opened(rt, requests)?;
+    let mut answered = opened(rt, replies)?;
+    let mut listed = opened(rt, lines)?;
+    let mut state = [0u8; layout::LENGTH];
     kernel::brombeertor_fresh(&mut state);
+    let mut request = Vec::with_capacity(rt.alloc(), LENGTH)?;
     let mut bad: u32 = 0;
     let mut count: u32 = 0;
     let mut over: usize = 0;
     while count < 100000 {
-        let mut request = [0u8; 72];
-        let got = io::read_full(asked, &mut request);
-        if got < 72 {
+        request.clear();
+        let got = asked
+            .by_ref()
+            .take(LENGTH as u64)
+            .read_to_end(&mut request)?;
+        if got < LENGTH {
             over = got;
             break;
         }
-        bad += wrong(&mut state, &request, answered, listed);
+        bad += wrong(&mut state, request.as_slice(), &mut answered, &mut listed)?;
         count += 1;
     }
-    let short = one_unless(says_short(listed, over));
-    let replies_end = one_unless(ended(answered));
-    let lines_end = one_unless(ended(listed));
-    libc::close(asked);
-    libc::close(answered);
-    libc::close(listed);
-    io::write_all(STDOUT_FILENO, name);
-    print(b' ', count);
-    print(b' ', bad + short + replies_end + lines_end);
-    io::write_all(STDOUT_FILENO, b"\n");
+    let short = one_unless(says_short(rt.alloc(), &mut listed, over)?);
+    let replies_end = one_unless(ended(&mut answered)?);
+    let lines_end = one_unless(ended(&mut listed)?);
+    rt.write_all(name)?;
+    print(rt, b' ', count)?;
+    print(rt, b' ', bad + short + replies_end + lines_end)?;
+    rt.write_all(b"\n")
 }
 
-fn main() {
-    stream(b"all", b"all.requests", b"all.replies", b"all.lines");
+fn main(rt: HostRuntime) -> io::Result<()> {
+    stream(&rt, b"all", "all.requests", "all.replies", "all.lines")?;
     stream(
+        &rt,
         b"edges",
-        b"edges.requests",
-        b"edges.replies",
-        b"edges.lines",
-    );
-    stream(b"full", b"full.requests", b"full.replies", b"full.lines");
+        "edges.requests",
+        "edges.replies",
+        "edges.lines",
+    )?;
+    stream(&rt, b"full", "full.requests", "full.replies", "full.lines")?;
     stream(
+        &rt,
         b"rings",
-        b"rings.requests",
-        b"rings.replies",
-        b"rings.lines",
-    );
+        "rings.requests",
+        "rings.replies",
+        "rings.lines",
+    )?;
     stream(
+        &rt,
         b"rubbish",
-        b"rubbish.requests",
-        b"rubbish.replies",
-        b"rubbish.lines",
-    );
-    stream(b"sems", b"sems.requests", b"sems.replies", b"sems.lines");
-    stream(b"time", b"time.requests", b"time.replies", b"time.lines");
+        "rubbish.requests",
+        "rubbish.replies",
+        "rubbish.lines",
+    )?;
+    stream(&rt, b"sems", "sems.requests", "sems.replies", "sems.lines")?;
+    stream(&rt, b"time", "time.requests", "time.replies", "time.lines")
 }

@@ -1,10 +1,9 @@
-use Prim.Native.Nat.{◌≤◌, ◌-◌}
-use mathlib.Core.Path.{◌≡◌}
-use lib.ListN.{length}
+-- Each request adds at most one wrong answer, so the sum fits.
+use Rattle.std.proofs.Common.{◌-◌, ◌≤◌}
 use Rattle.vectors.proofs.stream.Given as goal
 
 abbrev pub invariant-loop-count : goal.invariant-loop-count
-invariant-loop-count l = (length l.bad ≡ 4569) × (l.over ≤ 100000) × (l.count ≤ l.over)
+invariant-loop-count g l = (l.bad ≤ l.count) × (l.count ≤ 100000)
 
 abbrev pub decreases-loop-count : goal.decreases-loop-count
-decreases-loop-count l = 100000 - l.over
+decreases-loop-count g l = 100000 - l.count
