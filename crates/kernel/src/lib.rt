@@ -118,7 +118,8 @@ pub fn brombeertor_call(state: &mut [u8], request: &[u8], answer: &mut [u8]) -> 
     }
     let r = records::read(request);
     let code = refusals::refusal(t, r);
-    if code != 0 {
+    let refused = code != 0;
+    if refused {
         records::write(&mut *answer, refusal_reply(code, t.running));
         return code as u32;
     }

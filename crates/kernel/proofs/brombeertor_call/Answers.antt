@@ -1,6 +1,7 @@
 -- `kernel::brombeertor_call` meets its contract: each return is the definition at the tests on the way.
 use native.Mathlib.Omega.{arith}
 use mathlib.Core.Path.{◌≡◌, ap, ◌∙◌}
+use borrow.Author.Rules.{rules}
 use Rattle.steps.specs.Steps.{done}
 use Rattle.calls.specs.Calls.{row_of, moves_bytes}
 use Rattle.kernel.proofs.Laws.{request_wrong, answer_wrong, no_state, no_sound, is_refused, is_done, deed_done_lem}
@@ -12,30 +13,30 @@ step_is : (c : Joined-deed) → c.match-deed.step ≡ done (row_of c.read-r.resu
 unfolding done
 step_is c =
     elim c.match-deed.branch [
-      | in-Unknown w ↦ deed_done_lem c.read-r.result c.read-t.result c.row_of-row.ensures w.in-Unknown.is w.step-is w.plainly-step.ensures
-      | in-Tick w ↦ deed_done_lem c.read-r.result c.read-t.result c.row_of-row.ensures w.in-Tick.is w.step-is w.ticked-step.ensures
-      | in-CreateProcess w ↦ deed_done_lem c.read-r.result c.read-t.result c.row_of-row.ensures w.in-CreateProcess.is w.step-is w.created-step.ensures
-      | in-DeleteMyself w ↦ deed_done_lem c.read-r.result c.read-t.result c.row_of-row.ensures w.in-DeleteMyself.is w.step-is w.deleted_myself-step.ensures
-      | in-Suspend w ↦ deed_done_lem c.read-r.result c.read-t.result c.row_of-row.ensures w.in-Suspend.is w.step-is w.suspended-step.ensures
-      | in-Resume w ↦ deed_done_lem c.read-r.result c.read-t.result c.row_of-row.ensures w.in-Resume.is w.step-is w.resumed-step.ensures
-      | in-ChangePriority w ↦ deed_done_lem c.read-r.result c.read-t.result c.row_of-row.ensures w.in-ChangePriority.is w.step-is w.prioritised-step.ensures
-      | in-Schedule w ↦ deed_done_lem c.read-r.result c.read-t.result c.row_of-row.ensures w.in-Schedule.is w.step-is w.scheduled-step.ensures
-      | in-ProcessState w ↦ deed_done_lem c.read-r.result c.read-t.result c.row_of-row.ensures w.in-ProcessState.is w.step-is w.stated-step.ensures
-      | in-Sleep w ↦ deed_done_lem c.read-r.result c.read-t.result c.row_of-row.ensures w.in-Sleep.is w.step-is w.slept-step.ensures
-      | in-CreateStructure w ↦ deed_done_lem c.read-r.result c.read-t.result c.row_of-row.ensures w.in-CreateStructure.is w.step-is w.created-step-in-CreateStructure.ensures
-      | in-DeleteStructure w ↦ deed_done_lem c.read-r.result c.read-t.result c.row_of-row.ensures w.in-DeleteStructure.is w.step-is w.deleted-step.ensures
-      | in-StructureValue w ↦ deed_done_lem c.read-r.result c.read-t.result c.row_of-row.ensures w.in-StructureValue.is w.step-is w.valued-step.ensures
-      | in-Signal w ↦ deed_done_lem c.read-r.result c.read-t.result c.row_of-row.ensures w.in-Signal.is w.step-is w.signalled-step.ensures
-      | in-ConditionalSignal w ↦ deed_done_lem c.read-r.result c.read-t.result c.row_of-row.ensures w.in-ConditionalSignal.is w.step-is w.conditionally_signalled-step.ensures
-      | in-SignalAll w ↦ deed_done_lem c.read-r.result c.read-t.result c.row_of-row.ensures w.in-SignalAll.is w.step-is w.all_signalled-step.ensures
-      | in-Wait w ↦ deed_done_lem c.read-r.result c.read-t.result c.row_of-row.ensures w.in-Wait.is w.step-is w.waited-step.ensures
-      | in-ConditionalWait w ↦ deed_done_lem c.read-r.result c.read-t.result c.row_of-row.ensures w.in-ConditionalWait.is w.step-is w.conditionally_waited-step.ensures
-      | in-Put w ↦ deed_done_lem c.read-r.result c.read-t.result c.row_of-row.ensures w.in-Put.is w.step-is w.put_in-step.ensures
-      | in-ConditionalPut w ↦ deed_done_lem c.read-r.result c.read-t.result c.row_of-row.ensures w.in-ConditionalPut.is w.step-is w.put_in-step-in-ConditionalPut.ensures
-      | in-Get w ↦ deed_done_lem c.read-r.result c.read-t.result c.row_of-row.ensures w.in-Get.is w.step-is w.got-step.ensures
-      | in-ConditionalGet w ↦ deed_done_lem c.read-r.result c.read-t.result c.row_of-row.ensures w.in-ConditionalGet.is w.step-is w.got-step-in-ConditionalGet.ensures
-      | in-ResetRing w ↦ deed_done_lem c.read-r.result c.read-t.result c.row_of-row.ensures w.in-ResetRing.is w.step-is w.reset_ring-step.ensures
-      | in-Collect w ↦ deed_done_lem c.read-r.result c.read-t.result c.row_of-row.ensures w.in-Collect.is w.step-is w.collected-step.ensures
+      | in-Unknown w ↦ deed_done_lem c.read-r.result c.read-t.result c.row_of-row.ensures w.in-Unknown.is w.step-is (assumption rules)
+      | in-Tick w ↦ deed_done_lem c.read-r.result c.read-t.result c.row_of-row.ensures w.in-Tick.is w.step-is (assumption rules)
+      | in-CreateProcess w ↦ deed_done_lem c.read-r.result c.read-t.result c.row_of-row.ensures w.in-CreateProcess.is w.step-is (assumption rules)
+      | in-DeleteMyself w ↦ deed_done_lem c.read-r.result c.read-t.result c.row_of-row.ensures w.in-DeleteMyself.is w.step-is (assumption rules)
+      | in-Suspend w ↦ deed_done_lem c.read-r.result c.read-t.result c.row_of-row.ensures w.in-Suspend.is w.step-is (assumption rules)
+      | in-Resume w ↦ deed_done_lem c.read-r.result c.read-t.result c.row_of-row.ensures w.in-Resume.is w.step-is (assumption rules)
+      | in-ChangePriority w ↦ deed_done_lem c.read-r.result c.read-t.result c.row_of-row.ensures w.in-ChangePriority.is w.step-is (assumption rules)
+      | in-Schedule w ↦ deed_done_lem c.read-r.result c.read-t.result c.row_of-row.ensures w.in-Schedule.is w.step-is (assumption rules)
+      | in-ProcessState w ↦ deed_done_lem c.read-r.result c.read-t.result c.row_of-row.ensures w.in-ProcessState.is w.step-is (assumption rules)
+      | in-Sleep w ↦ deed_done_lem c.read-r.result c.read-t.result c.row_of-row.ensures w.in-Sleep.is w.step-is (assumption rules)
+      | in-CreateStructure w ↦ deed_done_lem c.read-r.result c.read-t.result c.row_of-row.ensures w.in-CreateStructure.is w.step-is (assumption rules)
+      | in-DeleteStructure w ↦ deed_done_lem c.read-r.result c.read-t.result c.row_of-row.ensures w.in-DeleteStructure.is w.step-is (assumption rules)
+      | in-StructureValue w ↦ deed_done_lem c.read-r.result c.read-t.result c.row_of-row.ensures w.in-StructureValue.is w.step-is (assumption rules)
+      | in-Signal w ↦ deed_done_lem c.read-r.result c.read-t.result c.row_of-row.ensures w.in-Signal.is w.step-is (assumption rules)
+      | in-ConditionalSignal w ↦ deed_done_lem c.read-r.result c.read-t.result c.row_of-row.ensures w.in-ConditionalSignal.is w.step-is (assumption rules)
+      | in-SignalAll w ↦ deed_done_lem c.read-r.result c.read-t.result c.row_of-row.ensures w.in-SignalAll.is w.step-is (assumption rules)
+      | in-Wait w ↦ deed_done_lem c.read-r.result c.read-t.result c.row_of-row.ensures w.in-Wait.is w.step-is (assumption rules)
+      | in-ConditionalWait w ↦ deed_done_lem c.read-r.result c.read-t.result c.row_of-row.ensures w.in-ConditionalWait.is w.step-is (assumption rules)
+      | in-Put w ↦ deed_done_lem c.read-r.result c.read-t.result c.row_of-row.ensures w.in-Put.is w.step-is (assumption rules)
+      | in-ConditionalPut w ↦ deed_done_lem c.read-r.result c.read-t.result c.row_of-row.ensures w.in-ConditionalPut.is w.step-is (assumption rules)
+      | in-Get w ↦ deed_done_lem c.read-r.result c.read-t.result c.row_of-row.ensures w.in-Get.is w.step-is (assumption rules)
+      | in-ConditionalGet w ↦ deed_done_lem c.read-r.result c.read-t.result c.row_of-row.ensures w.in-ConditionalGet.is w.step-is (assumption rules)
+      | in-ResetRing w ↦ deed_done_lem c.read-r.result c.read-t.result c.row_of-row.ensures w.in-ResetRing.is w.step-is (assumption rules)
+      | in-Collect w ↦ deed_done_lem c.read-r.result c.read-t.result c.row_of-row.ensures w.in-Collect.is w.step-is (assumption rules)
     ]
 
 pub returns-then-request-ne-LENGTH : goal.returns-then-request-ne-LENGTH
@@ -58,13 +59,13 @@ returns-then-not-sound c =
     c.is_state.ensures c.if-not-is_state.false c.read-t.ensures c.sound.ensures
     c.if-not-sound.true c.not_sound-then-not-sound.ensures c.write-then-not-sound.ensures
 
-pub returns-then-code-ne0 : goal.returns-then-code-ne0
-returns-then-code-ne0 c =
+pub returns-then-refused : goal.returns-then-refused
+returns-then-refused c =
     is_refused c.args.state.now c.args.request.now c.args.answer.now c.if-request-ne-LENGTH.false c.if-answer-ne-LENGTH.false
     (λ i. omega (arith, c.slice_known-1.given i))
     c.is_state.ensures c.if-not-is_state.false c.read-t.ensures c.sound.ensures
     c.if-not-sound.false c.read-r.ensures c.refusal-code.ensures
-    c.if-code-ne0.true c.refusal_reply.ensures c.write-then-code-ne0.ensures
+    c.if-refused.true c.refusal_reply.ensures c.write-then-refused.ensures
 
 pub returns : goal.returns
 returns c =
@@ -72,6 +73,6 @@ returns c =
     (λ i. omega (arith, c.slice_known-1.given i))
     c.is_state.ensures c.if-not-is_state.false c.read-t.ensures c.sound.ensures
     c.if-not-sound.false c.read-r.ensures c.refusal-code.ensures
-    c.if-code-ne0.false (step_is (goal.at.returns c).Joined-deed)
+    c.if-refused.false (step_is (goal.at.returns c).Joined-deed)
     (c.moves_bytes.ensures ∙ ap (λ x. moves_bytes x.deed) c.row_of-row.ensures)
     c.finished.ensures.0 c.finished.ensures.1 c.finished.ensures.2 c.finished.ensures.3
