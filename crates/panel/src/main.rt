@@ -1,5 +1,6 @@
 // Plays request records from standard input on a fresh panel and prints a line for each: call, code, running, N, L, M of
-// the reply. Bytes left over at the end give a last line `short` and their number.
+// the reply. Bytes left over at the end give a last line `short` and their number. A read or write that fails ends the program
+// with its error.
 #![tactic(auto)]
 
 ghost use Rattle.std.specs.Prelude.{◌≤◌};

@@ -1,5 +1,6 @@
 // Tried at the bench: the cases of document 01 that no theorem computes, and the ring and suspension examples once more, put
 // to the kernel. A line for each request: call, code, running, N, L, M. A line of its own, `fresh`, begins a case.
+// A write that fails ends the program with its error.
 #![tactic(auto)]
 
 use layout::LENGTH;

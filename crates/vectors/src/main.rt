@@ -1,5 +1,6 @@
 // Plays the request streams of data/ through the kernel and compares every reply, whole, and every line of text with the
-// stored ones. A line for each stream: its name, how many requests it has, how many answers were wrong.
+// stored ones. A line for each stream: its name, how many requests it has, how many answers were wrong. A read or write that
+// fails ends the program with its error.
 #![tactic(auto)]
 
 ghost use Rattle.std.specs.Prelude.{◌≤◌, IfOk};
@@ -40,7 +41,8 @@ fn ended(file: &mut impl Read) -> io::Result<bool> {
     Ok(next_byte(file)?.is_none())
 }
 
-// One request: 1 for a reply or a line that is not the stored one, else 0.
+// One request: 1 for a reply or a line that is not the stored one, else 0. An error is that of reading what is stored; the
+// request was carried out all the same.
 #[tactic(auto, using(listing::specs::Laws::lined_within))]
 fn wrong(
     state: &mut [u8],
