@@ -7,7 +7,7 @@ It runs once, at the top of the repository, after the kit's port.py. It renames 
 files of proofs/ declare: `withPlace` becomes `with_place`, and `head-ready` becomes `head_ready`. Types, modules and
 constructors that begin with a capital keep their names, and so does all that Rust code declares. Names in function
 folders of proofs/ that Rattle makes (goals, steps) are left alone. Pages and must-fail edits follow the same table.
-Where two names would fall together in one file, MEET gives one of them another name.
+Where a lemma's name would meet a definition's in one file, the lemma is called NAME_lem.
 A second run stops at names that would meet, and changes nothing.
 """
 
