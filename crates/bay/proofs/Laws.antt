@@ -9,7 +9,7 @@ use lib.ListN.{length, get_or, set}
 use lib.Seq.{paste, paste-suc}
 use Rattle.bay.specs.declared.Parcel.{Parcel}
 use Rattle.bay.specs.declared.Ring.{Ring}
-use Rattle.bay.specs.declared.Holding.TheVariants.{Bytes}
+use Rattle.std.specs.Prelude.{Some}
 use Rattle.bay.specs.Round.{table, tabled, get_d_table, set_table, going_round, lies_none, lies_next, lies_other, lies_not_yet, round_below, behind_round}
 use Rattle.bay.specs.Bay.{moved, filled, Numbers, contents, coming_byte, entered_byte, entered, left_byte, left, with_bytes, with_held}
 use Rattle.bay.specs.Laws.{entered_in, entered_out, left_in, left_out, length_contents, get_d_contents}
@@ -95,6 +95,6 @@ module _ (r : Ring) where
         rw (f, same, add-one) (paste-suc b to (contents r) i 0 w (rw length_contents h))
 
   -- after the loop
-  pub left_all : (p : Parcel) (to n i at : ℕ) (next : Ring) (l : List ℕ) → i ≡ n → at ≡ going_round r.size (r.start + n) → next ≡ with_bytes r (table 256 (left_byte r i)) → l ≡ paste p.bytes to (contents r) i → moved (record { bytes = next.bytes; start = at; size = next.size; held = r.held - n }) (record { bytes = l; holds = Bytes (to + n) }) ≡ moved (left r n) (filled p to (contents r) n)
+  pub left_all : (p : Parcel) (to n i at : ℕ) (next : Ring) (l : List ℕ) → i ≡ n → at ≡ going_round r.size (r.start + n) → next ≡ with_bytes r (table 256 (left_byte r i)) → l ≡ paste p.bytes to (contents r) i → moved (record { bytes = next.bytes; start = at; size = next.size; held = r.held - n }) (record { bytes = l; holds = Some (to + n) }) ≡ moved (left r n) (filled p to (contents r) n)
   unfolding left filled
   left_all p to n i at next l e a f g = rw (f, g, e, a)

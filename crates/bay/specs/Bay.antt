@@ -1,7 +1,7 @@
 -- Rings and parcels: what a ring holds, the canonical ring and parcel, a good ring, and what put, get and reset leave.
 use Rattle.std.specs.Prelude.{◌≡◌, Bool, false, cond, List, ◌++◌, ℕ, ◌+◌, ◌-◌, ◌≤◌, ◌<◌, length, get_or, take, drop, replicate, leb, ltb}
 use Rattle.std.proofs.Math.Seq.{paste}
-use Rattle.bay.specs.declared.Holding.TheVariants.{Nothing, Bytes}
+use Rattle.std.specs.Prelude.{None, Some}
 use Rattle.bay.specs.declared.Parcel.{Parcel}
 use Rattle.bay.specs.declared.Ring.{Ring}
 use Rattle.bay.specs.declared.Moved.{Moved}
@@ -41,11 +41,11 @@ empty_bay = record { bytes = zeros 256; start = 0; size = 0; held = 0 }
 
 -- the parcel that holds these bytes, and zero behind them
 unfoldable pub parcel_of : List ℕ → Parcel
-parcel_of b = record { bytes = b ++ zeros (64 - length b); holds = Bytes (length b) }
+parcel_of b = record { bytes = b ++ zeros (64 - length b); holds = Some (length b) }
 
 -- the parcel that holds nothing: all zero
 unfoldable pub empty_parcel : Parcel
-empty_parcel = record { bytes = zeros 64; holds = Nothing }
+empty_parcel = record { bytes = zeros 64; holds = None }
 
 -- n bytes of the parcel, from its byte `from` on
 abbrev pub bytes_from : Parcel → ℕ → ℕ → List ℕ
@@ -101,7 +101,7 @@ left r n = record { bytes = table 256 (left_byte r n); start = going_round r.siz
 
 -- the parcel with the first n bytes of c from its byte `at` on
 unfoldable pub filled : Parcel → ℕ → List ℕ → ℕ → Parcel
-filled p at c n = record { bytes = paste p.bytes at c n; holds = Bytes (at + n) }
+filled p at c n = record { bytes = paste p.bytes at c n; holds = Some (at + n) }
 
 -- a ring and a parcel
 abbrev pub moved : Ring → Parcel → Moved

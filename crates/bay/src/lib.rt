@@ -5,18 +5,12 @@ ghost use Rattle.std.specs.Prelude.{◌≡◌, []};
 ghost use Rattle.bay.specs.Round.{going_round};
 ghost use Rattle.bay.specs.Bay.{empty_bay, in_range, put_fits, get_fits, put_of, get_of, reset_of, empty_parcel, ring_of};
 
-// What a parcel holds: nothing, or so many bytes.
-#[derive(Clone, Copy)]
-pub enum Holding {
-    Nothing,
-    Bytes(u8),
-}
-
-// A process's parcel: the bytes that wait to enter a ring, or to be collected. The rest is zero.
+// A process's parcel: the bytes that wait to enter a ring, or to be collected, if it holds any. The rest is zero.
 #[derive(Clone, Copy)]
 pub struct Parcel {
     pub bytes: [u8; 64],
-    pub holds: Holding,
+    // How many bytes it holds, or nothing.
+    pub holds: Option<u8>,
 }
 
 // A ring in its bay, a true circle of the bay's first `size` bytes: `held` bytes from `start` on, round the end.
@@ -41,7 +35,7 @@ pub fn empty_parcel() -> Parcel
 {
     Parcel {
         bytes: [0u8; 64],
-        holds: Holding::Nothing,
+        holds: None,
     }
 }
 
@@ -167,7 +161,7 @@ pub fn get(ring: Ring, parcel: Parcel, at: u8, n: u8) -> Moved
     let end = (first + count) as u8;
     let filled = Parcel {
         bytes,
-        holds: Holding::Bytes(end),
+        holds: Some(end),
     };
     Moved {
         ring: next,

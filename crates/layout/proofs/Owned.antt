@@ -11,8 +11,7 @@ use denote.Array.{Array, each}
 use denote.Struct.Field.{Field}
 use denote.Builtin as builtin
 use lib.ListN.{length}
-use Rattle.bay.specs.declared.Holding.{Holding}
-use Rattle.bay.specs.declared.Holding.TheVariants as holdings
+use Rattle.std.specs.Prelude.{Option, None, Some}
 use Rattle.bay.specs.declared.Ring.{Ring}
 use Rattle.bay.specs.declared.Parcel.{Parcel}
 use Rattle.tables.specs.declared.Tables.{Tables}
@@ -29,7 +28,7 @@ use Rattle.tables.specs.contracts.Structure as structure_type
 use Rattle.tables.specs.contracts.Tables as tables_type
 use Rattle.tables.specs.contracts.Place as place_type
 use Rattle.tables.specs.contracts.Kind as kind_type
-use Rattle.bay.specs.contracts.Holding as holding_type
+use Rattle.std.specs.contracts.option.Option as option_type
 use Rattle.records.specs.Records.{Bytes}
 use Rattle.layout.specs.Typed.{Every, PlaceTyped, KindTyped, HoldingTyped, ProcessTyped, StructureTyped, RingTyped, ParcelTyped, Typed}
 
@@ -80,9 +79,9 @@ kind_typed (kinds.Binary v) vs o = search rules
 kind_typed (kinds.Counting v) vs o = search rules
 kind_typed (kinds.Ring b) vs o = search rules
 
-holding_typed : (x : Holding) (vs : List Val) → Owns holding_type.the_field x vs → HoldingTyped x
-holding_typed holdings.Nothing vs o = tt
-holding_typed (holdings.Bytes l) vs o = search rules
+holding_typed : (x : Option ℕ) (vs : List Val) → Owns (option_type.the_field builtin.u8) x vs → HoldingTyped x
+holding_typed None vs o = tt
+holding_typed (Some l) vs o = search rules
 
 process_typed : (x : Process) (vs : List Val) → Owns process_type.the_field x vs → ProcessTyped x
 process_typed x vs o = record { priority_range = o.1.1.0.1; place_range = place_typed x.place _ o.1.1.1.1.0 }

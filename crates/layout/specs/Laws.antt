@@ -8,8 +8,7 @@ use Rattle.std.proofs.Math.ListN.{length, length-append, length-drop}
 use Rattle.std.proofs.lemmas.List.{length-replicate, replicate-append-replicate}
 use Rattle.std.proofs.Math.Seq.{take_at, drop_at}
 use Rattle.basics.specs.Tests.{test, holds, fails, pick}
-use Rattle.bay.specs.declared.Holding.{Holding}
-use Rattle.bay.specs.declared.Holding.TheVariants as holdings
+use Rattle.std.specs.Prelude.{Option, None, Some}
 use Rattle.bay.specs.declared.Parcel.{Parcel}
 use Rattle.bay.specs.declared.Ring.{Ring}
 use Rattle.bay.specs.Bay.{zeros, empty_bay, empty_parcel}
@@ -241,10 +240,10 @@ unfolding bay_from bay_bytes part low_first
 bay_back r h =
     rw (number_low_first 2 r.start h.start_range, number_low_first 2 r.size h.size_range, number_low_first 2 r.held h.held_range)
 
-holding_back : (x : Holding) → holding_of (holding_flag x) (holding_length x) ≡ x
+holding_back : (x : Option ℕ) → holding_of (holding_flag x) (holding_length x) ≡ x
 unfolding holding_of
-holding_back holdings.Nothing = refl
-holding_back (holdings.Bytes l) = refl
+holding_back None = refl
+holding_back (Some l) = refl
 
 parcel_back : (p : Parcel) → parcel_from (holding_bytes p) (parcel_bytes p) ≡ p
 unfolding parcel_from holding_bytes

@@ -52,7 +52,7 @@ ghost use Rattle.layout.specs.Kept.{
   holding_fits,
 };
 
-use bay::{Holding, Parcel, Ring};
+use bay::{Parcel, Ring};
 use tables::{Kind, Place, Process, Structure, Tables};
 
 // Where each part begins: the control part first, then the bays' bytes, then the parcels'.
@@ -240,37 +240,37 @@ fn bay_from(s: &[u8], at: usize, from: usize) -> Ring
 }
 
 // 1 where a parcel holds bytes, 0 where it holds nothing.
-fn holding_flag(holds: Holding) -> u8
+fn holding_flag(holds: Option<u8>) -> u8
     ensures { result ≡ holding_flag holds }
 {
     match holds {
-        Holding::Nothing => 0,
-        Holding::Bytes(_) => 1,
+        None => 0,
+        Some(_) => 1,
     }
 }
 
 // How many bytes a parcel holds.
-fn holding_length(holds: Holding) -> u8
+fn holding_length(holds: Option<u8>) -> u8
     ensures { result ≡ holding_length holds }
 {
     match holds {
-        Holding::Nothing => 0,
-        Holding::Bytes(l) => l,
+        None => 0,
+        Some(l) => l,
     }
 }
 
 // What a parcel holds by these bytes.
-fn holding_of(k: u8, l: u8) -> Holding
+fn holding_of(k: u8, l: u8) -> Option<u8>
     ensures { result ≡ holding_of k l }
 {
     if k == 1 {
-        return Holding::Bytes(l);
+        return Some(l);
     }
-    Holding::Nothing
+    None
 }
 
 // The bytes of what a parcel holds: 1 and the length, or 0 and 0 for nothing.
-fn holding_bytes(holds: Holding) -> [u8; 2]
+fn holding_bytes(holds: Option<u8>) -> [u8; 2]
     ensures { result ≡ holding_flag holds ∷ holding_length holds ∷ [] }
 {
     [holding_flag(holds), holding_length(holds)]

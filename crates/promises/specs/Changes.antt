@@ -18,7 +18,7 @@ use Rattle.tables.specs.declared.Place.{Place}
 use Rattle.tables.specs.declared.Place.TheVariants.{Nowhere, Running, Ready, Parked, Waiting, Getting, Putting, Asleep}
 use Rattle.tables.specs.declared.Kind.{Kind}
 use Rattle.tables.specs.declared.Kind.TheVariants as kinds
-use Rattle.bay.specs.declared.Holding.{Holding}
+use Rattle.std.specs.Prelude.{Option}
 use Rattle.tables.specs.declared.Line.{Line}
 use Rattle.tables.specs.declared.Line.TheVariants.{Semaphore, Getters, Putters}
 use Rattle.tables.specs.Access.{numbered, replaced, nobody, nothing, process_of, ring_in}
@@ -366,7 +366,7 @@ unwaited_lines n (Putting m l) e = (refl, e, refl)
 unwaited_lines n (Asleep k) e = (refl, refl, refl)
 
 -- .. and fits its place whatever structure n is
-pub unwaited_fits : (k j : Kind) (a b : ℕ) (q : Process) (h : Holding) (place : Place) → waits_at (spot place) place ≡ false → PlaceFits k a q h place → PlaceFits j b q h place
+pub unwaited_fits : (k j : Kind) (a b : ℕ) (q : Process) (h : Option ℕ) (place : Place) → waits_at (spot place) place ≡ false → PlaceFits k a q h place → PlaceFits j b q h place
 unfolding waits_at
 unwaited_fits k j a b q h Nowhere e f = f
 unwaited_fits k j a b q h Running e f = f

@@ -23,7 +23,7 @@ use Rattle.tables.specs.Access.{fresh, parcel_for}
 use Rattle.sound.specs.Decided.{Typed}
 use Rattle.promises.specs.KeptRingsCalls.{put_steady, conditional_put_steady, get_steady, conditional_get_steady, reset_steady, collect_steady}
 use Rattle.promises.specs.KeptRingsAccepted.{get_empty}
-use Rattle.bay.specs.declared.Holding.TheVariants.{Nothing}
+use Rattle.std.specs.Prelude.{None}
 use Rattle.promises.specs.Changes.{Steady}
 use Rattle.promises.specs.KeptReady.{dispatched_steady, dispatched_sound, sound_steady}
 use Rattle.promises.specs.KeptSemaphores.{waited_steady, conditionally_waited_steady, signalled_steady, conditionally_signalled_steady, all_signalled_steady}
@@ -35,7 +35,7 @@ use Rattle.promises.specs.KeptTick.{ticked_steady}
 
 -- Every deed keeps tables steady: sleep for at most 2,147,483,647 milliseconds, delete where nobody is in a line, and get where the caller's parcel holds nothing
 pub done_steady : (deed : Deed) (r : Record) (t : Tables) → Steady t → length r.bytes ≡ 64 → (deed ≡ deeds.Sleep → r.m ≤ 2147483647) → (deed ≡ deeds.DeleteStructure → in_lines_of r.n t ≡ 0)
-    → (deed ≡ deeds.Get → (parcel_for t t.running).holds ≡ Nothing)
+    → (deed ≡ deeds.Get → (parcel_for t t.running).holds ≡ None)
     → Steady (done deed r t).tables
 unfolding done
 done_steady deeds.Unknown r t steady long sleeps deletes gets = steady

@@ -9,7 +9,7 @@ use Rattle.arrivals.specs.Order as order
 use Rattle.arrivals.specs.Listed.{is_listed, is_not_listed, one_same, count_joined, length_joined, count_deleted, length_deleted}
 use Rattle.arrivals.specs.Views.{arrives, stays_deleted}
 use Rattle.arrivals.specs.Zeros.{zeros_joined, zeros_deleted, room_first}
-use Rattle.bay.specs.declared.Holding.{Holding}
+use Rattle.std.specs.Prelude.{Option}
 use Rattle.bay.specs.Bay.{empty_parcel}
 use Rattle.tables.specs.declared.Tables.{Tables}
 use Rattle.tables.specs.declared.Process.{Process}
@@ -78,7 +78,7 @@ parked_runner p q t steady was h =
 -- ---- suspend and resume
 
 -- "waiting or asleep is marked and keeps its position"
-marked_fits : (b : Bool) (k : Kind) (a : ℕ) (q : Process) (h : Holding) (place : Place) → leb 4 (code place) ≡ true → PlaceFits k a q h place → PlaceFits k a (marked b q) h place
+marked_fits : (b : Bool) (k : Kind) (a : ℕ) (q : Process) (h : Option ℕ) (place : Place) → leb 4 (code place) ≡ true → PlaceFits k a q h place → PlaceFits k a (marked b q) h place
 marked_fits b k a q h Nowhere e f = absurd (true≢false (sym e))
 marked_fits b k a q h Running e f = absurd (true≢false (sym e))
 marked_fits b k a q h Ready e f = absurd (true≢false (sym e))
@@ -146,7 +146,7 @@ resumed_steady p t steady =
 -- ---- change priority, and schedule
 
 -- No place asks for a priority
-priority_fits : (l : ℕ) (k : Kind) (a : ℕ) (q : Process) (h : Holding) (place : Place) → eqb (code place) 0 ≡ false → PlaceFits k a q h place → PlaceFits k a (with_priority l q) h place
+priority_fits : (l : ℕ) (k : Kind) (a : ℕ) (q : Process) (h : Option ℕ) (place : Place) → eqb (code place) 0 ≡ false → PlaceFits k a q h place → PlaceFits k a (with_priority l q) h place
 priority_fits l k a q h Nowhere e f = absurd (true≢false e)
 priority_fits l k a q h Running e f = f
 priority_fits l k a q h Ready e f = f

@@ -12,7 +12,7 @@ use Rattle.tables.specs.declared.Place.{Place}
 use Rattle.tables.specs.declared.Place.TheVariants.{Nowhere, Running, Ready, Parked, Waiting, Getting, Putting, Asleep}
 use Rattle.tables.specs.declared.Line.TheVariants as lines
 use Rattle.tables.specs.declared.Kind.{Kind}
-use Rattle.bay.specs.declared.Holding.{Holding}
+use Rattle.std.specs.Prelude.{Option}
 use Rattle.tables.specs.Numbers.{code, spot}
 use Rattle.tables.specs.Access.{numbered, nobody, process_of, with_process}
 use Rattle.tables.specs.Lines.{line, stands, standing, urgency, behind_equals, by_urgency, ready_line}
@@ -306,7 +306,7 @@ released_movable true = refl
 released_movable false = refl
 
 -- "moved to the ready line, or to the end of the parked line if suspended (it is then plainly parked)": it fits there
-pub released_fits : (k : ℕ → Kind) (size : ℕ → ℕ) (q : Process) (h : Holding) (b : Bool) → q.suspended ≡ b
+pub released_fits : (k : ℕ → Kind) (size : ℕ → ℕ) (q : Process) (h : Option ℕ) (b : Bool) → q.suspended ≡ b
     → PlaceFits (k (spot (released_to b))) (size (spot (released_to b))) (placed q (released_to b)) h (released_to b)
 released_fits k size q h true e = e
 released_fits k size q h false e = e

@@ -6,7 +6,7 @@ use Rattle.basics.specs.Tests.{test, holds, fails}
 use Rattle.arrivals.specs.Order.{count, has, zeros_first}
 use Rattle.arrivals.specs.Listed.{listed, is_listed}
 use Rattle.bay.specs.declared.Parcel.{Parcel}
-use Rattle.bay.specs.declared.Holding.{Holding}
+use Rattle.std.specs.Prelude.{Option}
 use Rattle.bay.specs.Bay.{Good}
 use Rattle.bay.specs.Laws.{length_parcel_of, length_empty_parcel}
 use Rattle.tables.specs.declared.Tables.{Tables}
@@ -81,7 +81,7 @@ bay_used {t} n b s e =
 -- ---- settled tables are fit to be served
 
 -- A length is at most 64
-place_short : (kind : Kind) (size : ℕ) (q : Process) (held : Holding) (place : Place) → PlaceFits kind size q held place → asked place ≤ 64
+place_short : (kind : Kind) (size : ℕ) (q : Process) (held : Option ℕ) (place : Place) → PlaceFits kind size q held place → asked place ≤ 64
 place_short kind size q held Nowhere f = omega arith
 place_short kind size q held Running f = omega arith
 place_short kind size q held Ready f = omega arith

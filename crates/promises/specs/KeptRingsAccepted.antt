@@ -3,8 +3,7 @@ use Rattle.std.specs.Prelude.{ℕ, ◌≡◌, true, false, eqb, leb, ltb}
 use Rattle.std.proofs.Math.Path.{refl}
 use Rattle.std.proofs.Common.{sym, ap, ◌∙◌, true≢false, arith, leb-true, leb-false}
 use Rattle.basics.specs.Tests.{test, holds, fails}
-use Rattle.bay.specs.declared.Holding.{Holding}
-use Rattle.bay.specs.declared.Holding.TheVariants.{Nothing, Bytes}
+use Rattle.std.specs.Prelude.{Option, None, Some}
 use Rattle.tables.specs.declared.Tables.{Tables}
 use Rattle.tables.specs.Access.{parcel_for}
 use Rattle.records.specs.declared.Record.{Record}
@@ -36,10 +35,10 @@ get_caller who running h =
     ]
 
 -- whose parcel holds nothing
-get_holds : (who : ℕ) (held : Holding) → uncollected 20 who held ≡ false → eqb who 1 ≡ true → held ≡ Nothing
+get_holds : (who : ℕ) (held : Option ℕ) → uncollected 20 who held ≡ false → eqb who 1 ≡ true → held ≡ None
 unfolding uncollected
-get_holds who Nothing h e = refl
-get_holds who (Bytes l) h e = absurd (true≢false (rw e at h))
+get_holds who None h e = refl
+get_holds who (Some l) h e = absurd (true≢false (rw e at h))
 
 module _ (t : Tables) (r : Record) (accepted : refusal t r ≡ 0) where
   -- Neither 42 nor 48 applies
@@ -52,7 +51,7 @@ module _ (t : Tables) (r : Record) (accepted : refusal t r ≡ 0) where
   not_48 = none_applies (λ k. applies k t r) codes refl accepted 48 refl
 
   -- So the parcel of an accepted get's caller holds nothing
-  pub get_empty : (row_of r.what).deed ≡ deeds.Get → (parcel_for t t.running).holds ≡ Nothing
+  pub get_empty : (row_of r.what).deed ≡ deeds.Get → (parcel_for t t.running).holds ≡ None
   get_empty e =
       let call = get_number r.what e in
       get_holds r.who (parcel_for t t.running).holds (rw call at not_48) (get_caller r.who t.running (rw call at not_42))

@@ -7,8 +7,7 @@ use Rattle.basics.specs.Tests.{test, holds, fails}
 use Rattle.arrivals.specs.Order.{first}
 use Rattle.bay.specs.declared.Ring as bays
 use Rattle.bay.specs.declared.Parcel.{Parcel}
-use Rattle.bay.specs.declared.Holding.{Holding}
-use Rattle.bay.specs.declared.Holding.TheVariants.{Nothing, Bytes}
+use Rattle.std.specs.Prelude.{Option, None, Some}
 use Rattle.bay.specs.Bay.{Good, empty_bay, empty_parcel, parcel_of, ring_of, put_of, get_of, reset_of}
 use Rattle.bay.specs.Laws.{length_parcel_of, put_ring, put_good, get_ring, get_good, reset_ring_lem, reset_good}
 use Rattle.tables.specs.declared.Tables.{Tables}
@@ -229,7 +228,7 @@ module _ (n l : ℕ) (bytes : List ℕ) (t : Tables) (steady : Steady t) (long :
 
       putter_fits : Fits t.structures t.rings (placed (process_of t t.running) (Putting n l)) (parcel_at parcels_now t.running).holds
       unfolding parcel_of
-      putter_fits = (asks n l b t ring w, ap (λ (y : Parcel). y.holds) parcel_now ∙ ap Bytes front)
+      putter_fits = (asks n l b t ring w, ap (λ (y : Parcel). y.holds) parcel_now ∙ ap Some front)
 
       putter_kept : Kept (parcel_at parcels_now t.running)
       putter_kept = some (take l bytes) (rw front w.some) (rw front w.most) parcel_now
@@ -274,7 +273,7 @@ module _ (n l : ℕ) (t : Tables) (steady : Steady t) where
         (get_good fit.good l enough empty_parcel 0 (omega (arith, w.most)))
         (ap (λ (r : bays.Ring). r.size) (get_ring fit.good l enough empty_parcel 0 (omega (arith, w.most))))
 
-    module _ (someone : t.running ≡ 0 → ⊥) (empty : (parcel_for t t.running).holds ≡ Nothing) (new : first (line (Getters n) t) ≡ 0 → leb l (ring_in t b).held ≡ false) where
+    module _ (someone : t.running ≡ 0 → ⊥) (empty : (parcel_for t t.running).holds ≡ None) (new : first (line (Getters n) t) ≡ 0 → leb l (ring_in t b).held ≡ false) where
       getter_fits : Fits t.structures t.rings (placed (process_of t t.running) (Getting n l)) (parcel_at t.parcels t.running).holds
       unfolding parcel_for
       getter_fits = (asks n l b t ring w, empty)
@@ -290,7 +289,7 @@ module _ (n l : ℕ) (t : Tables) (steady : Steady t) where
           }
 
   -- Call 20, by a process whose parcel holds nothing
-  pub get_steady : (parcel_for t t.running).holds ≡ Nothing → Steady (got n l t).tables
+  pub get_steady : (parcel_for t t.running).holds ≡ None → Steady (got n l t).tables
   unfolding got got_by
   get_steady empty =
       elim (test (eqb t.running 0)) [
@@ -335,7 +334,7 @@ module _ (n : ℕ) (t : Tables) (steady : Steady t) where
 -- ---- collect
 
 -- What a runner's parcel holds is free
-running_fits : (structures : List Structure) (rings : List bays.Ring) (q : Process) (held now : Holding) → q.place ≡ Running → Fits structures rings q held → Fits structures rings q now
+running_fits : (structures : List Structure) (rings : List bays.Ring) (q : Process) (held now : Option ℕ) → q.place ≡ Running → Fits structures rings q held → Fits structures rings q now
 running_fits structures rings q held now e f =
     let awake : q.suspended ≡ false = rw e at f in
     rw e awake
@@ -384,10 +383,10 @@ module _ (t : Tables) (steady : Steady t) where
   emptied_still m c e = record { getter = (steady.still m c e).getter; putter = (steady.still m c e).putter }
 
   -- where there was something to collect
-  collected_from_lem : (bytes : List ℕ) (held : Holding) → Steady (collected_from bytes held t).tables
+  collected_from_lem : (bytes : List ℕ) (held : Option ℕ) → Steady (collected_from bytes held t).tables
   unfolding collected_from collected_bytes
-  collected_from_lem bytes Nothing = steady
-  collected_from_lem bytes (Bytes l) = record { typed = typed_parcel t steady.typed t.running empty_parcel; settled = emptied_settled; still = emptied_still }
+  collected_from_lem bytes None = steady
+  collected_from_lem bytes (Some l) = record { typed = typed_parcel t steady.typed t.running empty_parcel; settled = emptied_settled; still = emptied_still }
 
   -- Call 23
   pub collect_steady : Steady (collected t).tables

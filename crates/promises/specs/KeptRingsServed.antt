@@ -8,8 +8,7 @@ use Rattle.arrivals.specs.Listed.{count_moved}
 use Rattle.arrivals.specs.Zeros.{zeros_moved}
 use Rattle.bay.specs.declared.Ring as bays
 use Rattle.bay.specs.declared.Parcel.{Parcel}
-use Rattle.bay.specs.declared.Holding.{Holding}
-use Rattle.bay.specs.declared.Holding.TheVariants.{Nothing}
+use Rattle.std.specs.Prelude.{Option, None}
 use Rattle.bay.specs.Bay.{Good, contents, empty_parcel, parcel_of, get_of}
 use Rattle.bay.specs.Laws.{length_contents, get_good, get_parcel_of, put_good}
 use Rattle.tables.specs.declared.Tables.{Tables}
@@ -43,7 +42,7 @@ released_not_running true e = let z : ◌≡◌ {A = ℕ} 0 1 = cc in omega arit
 released_not_running false e = let z : ◌≡◌ {A = ℕ} 0 1 = cc in omega arith
 
 -- and fits its place
-released_fits : (structures : List Structure) (rings : List bays.Ring) (held : Holding) (priority : ℕ) (s : Bool)
+released_fits : (structures : List Structure) (rings : List bays.Ring) (held : Option ℕ) (priority : ℕ) (s : Bool)
     → Fits structures rings (record { priority = priority; suspended = s; place = released_to s }) held
 released_fits structures rings held priority true = refl
 released_fits structures rings held priority false = refl
@@ -128,13 +127,13 @@ module _ (n b x : ℕ) (r : bays.Ring) (y : Parcel) (t : Tables) (s : Settled t)
       }
 
 -- What a getter and a putter have in their parcels
-getter_fits : (structures : List Structure) (rings : List bays.Ring) (q : Process) (held : Holding) (n l : ℕ) → q.place ≡ Getting n l → Fits structures rings q held → (1 ≤ l) × (l ≤ 64) × (held ≡ Nothing)
+getter_fits : (structures : List Structure) (rings : List bays.Ring) (q : Process) (held : Option ℕ) (n l : ℕ) → q.place ≡ Getting n l → Fits structures rings q held → (1 ≤ l) × (l ≤ 64) × (held ≡ None)
 getter_fits structures rings q held n l e f =
     let g : PlaceFits _ _ q held (Getting n l) = rw e at f in
     (g.0.some, g.0.most, g.1)
 
 -- A parcel that holds nothing is empty
-kept_empty : {parcel : Parcel} → Kept parcel → parcel.holds ≡ Nothing → parcel ≡ empty_parcel
+kept_empty : {parcel : Parcel} → Kept parcel → parcel.holds ≡ None → parcel ≡ empty_parcel
 unfolding parcel_of
 kept_empty (none e) h = e
 kept_empty (some bytes a c e) h = let z : ◌≡◌ {A = ℕ} 0 1 = cc in absurd (omega arith)
@@ -160,7 +159,7 @@ module _ (n b x : ℕ) (gs : List ℕ) (t : Tables) (fit : Fit b t) (v : Serves 
   want = asked (process_of t x).place
 
   -- Its parcel is empty before,
-  getter_asks : (1 ≤ want) × (want ≤ 64) × ((parcel_for t x).holds ≡ Nothing)
+  getter_asks : (1 ≤ want) × (want ≤ 64) × ((parcel_for t x).holds ≡ None)
   unfolding process_of parcel_for
   getter_asks = getter_fits t.structures t.rings (process_of t x) (parcel_for t x).holds n want (is_getter n b x gs t fit e bytes) (v.settled.fits x)
 

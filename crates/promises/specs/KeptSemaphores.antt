@@ -6,7 +6,7 @@ use Rattle.basics.specs.Tests.{test, holds, fails}
 use Rattle.arrivals.specs.Order.{has, first}
 use Rattle.arrivals.specs.Listed.{is_listed}
 use Rattle.arrivals.specs.Views.{has_keep, in_line}
-use Rattle.bay.specs.declared.Holding.{Holding}
+use Rattle.std.specs.Prelude.{Option}
 use Rattle.tables.specs.declared.Tables.{Tables}
 use Rattle.tables.specs.declared.Process.{Process}
 use Rattle.tables.specs.declared.Kind.{Kind}
@@ -29,7 +29,7 @@ use Rattle.promises.specs.KeptReady.{fits_as, movable, runner_joins_steady, rele
 -- ---- who waits at a structure
 
 -- Nobody waits at a structure that is no ring, if nobody stands in a semaphore's line there
-unwaited_place : (n : ℕ) (kind : Kind) (size : ℕ) (q : Process) (h : Holding) (place : Place) → (spot place ≡ n → PlaceFits kind size q h place) → is_ring kind ≡ false
+unwaited_place : (n : ℕ) (kind : Kind) (size : ℕ) (q : Process) (h : Option ℕ) (place : Place) → (spot place ≡ n → PlaceFits kind size q h place) → is_ring kind ≡ false
     → (place ≡ Waiting n → ⊥) → waits_at n place ≡ false
 unfolding waits_at
 unwaited_place n kind size q h Nowhere f r w = refl

@@ -9,8 +9,7 @@ use Rattle.basics.specs.Tests.{test, holds, fails}
 use Rattle.arrivals.specs.Order.{first}
 use Rattle.bay.specs.declared.Ring as bays
 use Rattle.bay.specs.declared.Parcel.{Parcel}
-use Rattle.bay.specs.declared.Holding.{Holding}
-use Rattle.bay.specs.declared.Holding.TheVariants as holdings
+use Rattle.std.specs.Prelude.{Option, None, Some}
 use Rattle.bay.specs.Round.{table, lies}
 use Rattle.bay.specs.Bay.{zeros, contents, laid_byte, laid, ring_of, empty_bay, parcel_of, empty_parcel, put_fits, get_fits, in_range, coming_byte, entered_byte, entered as entered_ring, put_of, left_byte, left, filled, get_of, thrown_away, reset_of}
 use Rattle.tables.specs.declared.Tables.{Tables}
@@ -549,10 +548,10 @@ small_reset n (kinds.Counting v) t small = small
 small_reset n (kinds.Ring b) t small = small_served n b (reset_of (ring_in t b)) t small (bytes_reset (ring_in t b) (small.ring_bytes b))
 
 -- Collect, by what the parcel holds
-small_collected : (bytes : List ℕ) (holding : Holding) (t : Tables) → Small t → Small (rings.collected_from bytes holding t).tables
+small_collected : (bytes : List ℕ) (holding : Option ℕ) (t : Tables) → Small t → Small (rings.collected_from bytes holding t).tables
 unfolding rings.collected_from rings.collected_bytes
-small_collected bytes holdings.Nothing t small = small
-small_collected bytes (holdings.Bytes l) t small = small_parcel t small t.running empty_parcel bytes_empty_parcel
+small_collected bytes None t small = small
+small_collected bytes (Some l) t small = small_parcel t small t.running empty_parcel bytes_empty_parcel
 
 -- ---- what an accepted request does
 

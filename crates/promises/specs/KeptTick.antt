@@ -9,7 +9,7 @@ use Rattle.basics.specs.Tests.{test, holds, fails}
 use Rattle.arrivals.specs.Order.{has, keep, moved_last}
 use Rattle.arrivals.specs.Listed.{is_listed}
 use Rattle.arrivals.specs.Views.{keep_same, has_keep, in_line}
-use Rattle.bay.specs.declared.Holding.{Holding}
+use Rattle.std.specs.Prelude.{Option}
 use Rattle.tables.specs.declared.Tables.{Tables}
 use Rattle.tables.specs.declared.Process.{Process}
 use Rattle.tables.specs.declared.Kind.{Kind}
@@ -173,7 +173,7 @@ slower_runs k (Putting n m) = (λ e. e, λ e. e)
 slower_runs k (Asleep m) = (λ e. cc, λ e. cc)
 
 -- and fits its place
-slower_fits : (k : ℕ) (kinds : ℕ → Kind) (sizes : ℕ → ℕ) (q : Process) (h : Holding) (place : Place) → PlaceFits (kinds (spot place)) (sizes (spot place)) q h place
+slower_fits : (k : ℕ) (kinds : ℕ → Kind) (sizes : ℕ → ℕ) (q : Process) (h : Option ℕ) (place : Place) → PlaceFits (kinds (spot place)) (sizes (spot place)) q h place
     → PlaceFits (kinds (spot (slower k place))) (sizes (spot (slower k place))) (placed q (slower k place)) h (slower k place)
 unfolding slower
 slower_fits k kinds sizes q h Nowhere f = f

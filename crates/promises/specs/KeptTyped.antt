@@ -8,7 +8,7 @@ use Rattle.arrivals.specs.Order.{count}
 use Rattle.arrivals.specs.Listed.{one_same}
 use Rattle.bay.specs.declared.Ring as bays
 use Rattle.bay.specs.declared.Parcel.{Parcel}
-use Rattle.bay.specs.declared.Holding.{Holding}
+use Rattle.std.specs.Prelude.{Option}
 use Rattle.bay.specs.Bay.{empty_bay, empty_parcel, parcel_of}
 use Rattle.bay.specs.Laws.{length_zeros, length_parcel_of, length_empty_parcel}
 use Rattle.tables.specs.declared.Tables.{Tables}
@@ -96,7 +96,7 @@ ring_live (kinds.Counting v) e = refl
 ring_live (kinds.Ring b) e = refl
 
 -- So the numbers of a place that fits are in range,
-place_typed : (l : List Structure) → length l ≡ 24 → (size : ℕ) (q : Process) (holding : Holding) (place : Place) → PlaceFits (kind_at l (spot place)) size q holding place → PlaceTyped place
+place_typed : (l : List Structure) → length l ≡ 24 → (size : ℕ) (q : Process) (holding : Option ℕ) (place : Place) → PlaceFits (kind_at l (spot place)) size q holding place → PlaceTyped place
 place_typed l long size q holding Nowhere fits = tt
 place_typed l long size q holding Running fits = tt
 place_typed l long size q holding Ready fits = tt

@@ -8,8 +8,7 @@ use Rattle.arrivals.specs.Order.{has, first}
 use Rattle.arrivals.specs.Views.{in_line}
 use Rattle.bay.specs.declared.Ring as bays
 use Rattle.bay.specs.declared.Parcel.{Parcel}
-use Rattle.bay.specs.declared.Holding.{Holding}
-use Rattle.bay.specs.declared.Holding.TheVariants.{Nothing, Bytes}
+use Rattle.std.specs.Prelude.{Option, None, Some}
 use Rattle.bay.specs.Bay.{empty_parcel, parcel_of, put_of, get_of}
 use Rattle.tables.specs.declared.Tables.{Tables}
 use Rattle.tables.specs.declared.Kind.{Kind}
@@ -266,10 +265,10 @@ valued_same part m t (kinds.Counting v) = part_none part t
 valued_same part m t (kinds.Ring b) = part_none part t
 
 -- Collect, by what the parcel holds
-collected_same : (part : Part) (t : Tables) (bytes : List ℕ) (holding : Holding) → SamePart part t (collected_from bytes holding t).tables
+collected_same : (part : Part) (t : Tables) (bytes : List ℕ) (holding : Option ℕ) → SamePart part t (collected_from bytes holding t).tables
 unfolding collected_from collected_bytes
-collected_same part t bytes Nothing = part_none part t
-collected_same part t bytes (Bytes l) = parcel_same part t.running empty_parcel t
+collected_same part t bytes None = part_none part t
+collected_same part t bytes (Some l) = parcel_same part t.running empty_parcel t
 
 -- ---- every call but two
 

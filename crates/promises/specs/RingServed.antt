@@ -7,7 +7,7 @@ use Rattle.basics.specs.Tests.{test, holds, fails}
 use Rattle.arrivals.specs.Order.{count, has, keep}
 use Rattle.arrivals.specs.Listed.{listed, is_not_listed, is_listed, count_append, has_here, has_behind}
 use Rattle.arrivals.specs.Views.{keep_append, keep_none, count_keep, count_keep_le}
-use Rattle.bay.specs.declared.Holding.TheVariants.{Bytes}
+use Rattle.std.specs.Prelude.{Some}
 use Rattle.bay.specs.Bay.{contents, filled}
 use Rattle.bay.specs.Laws.{length_contents}
 use Rattle.tables.specs.declared.Tables.{Tables}
@@ -178,7 +178,7 @@ module _ (n b : ℕ) (t : Tables) (fit_before : Fit b t) (u : Tables) (fit : Fit
     then_parcels p h = rw (putter_served n b x ps u fit e room) (changed_parcels b x _ _ u (who_puts n b x ps u fit e room) p h)
 
     -- whose bytes, as many as it brings, enter the ring
-    putter_holds : (parcel_for u x).holds ≡ Bytes bring
+    putter_holds : (parcel_for u x).holds ≡ Some bring
     unfolding process_of parcel_for
     putter_holds = (fits_as u s.serves.settled x (Putting n bring) (is_putter n b x ps u fit e room)).1
 

@@ -1,8 +1,7 @@
 -- "Turns and bytes for demand 3": what a reader counts of a request, from the request, its reply, and the lines and rings before and after it.
 use Rattle.std.specs.Prelude.{ℕ, Bool, true, false, cond, not, List, [], ◌∷◌, ◌++◌, eqb, length, take}
 use Rattle.arrivals.specs.Order.{has, keep}
-use Rattle.bay.specs.declared.Holding.{Holding}
-use Rattle.bay.specs.declared.Holding.TheVariants as holdings
+use Rattle.std.specs.Prelude.{Option, None, Some}
 use Rattle.bay.specs.Bay.{contents}
 use Rattle.tables.specs.declared.Tables.{Tables}
 use Rattle.tables.specs.declared.Kind.{Kind}
@@ -102,9 +101,9 @@ lost n e = cond (both (answered 13 n 0 e) (both (not (is_line (line_before (Sema
 -- ---- rings
 
 -- The bytes that a parcel holds
-unfoldable pub held_as : Holding → List ℕ → List ℕ
-held_as holdings.Nothing bytes = []
-held_as (holdings.Bytes l) bytes = take l bytes
+unfoldable pub held_as : Option ℕ → List ℕ → List ℕ
+held_as None bytes = []
+held_as (Some l) bytes = take l bytes
 
 abbrev pub parcel_bytes : Tables → ℕ → List ℕ
 parcel_bytes t p = held_as (parcel_for t p).holds (parcel_for t p).bytes

@@ -1,7 +1,6 @@
 -- The refusals 41 to 53: when each applies, in document 01's words, and which one is given.
 use Rattle.std.specs.Prelude.{ℕ, Bool, true, false, cond, not, List, [], ◌∷◌, ◌++◌, eqb, leb, ltb, drop}
-use Rattle.bay.specs.declared.Holding.{Holding}
-use Rattle.bay.specs.declared.Holding.TheVariants.{Nothing, Bytes}
+use Rattle.std.specs.Prelude.{Option, None, Some}
 use Rattle.tables.specs.declared.Tables.{Tables}
 use Rattle.tables.specs.declared.Process.{Process}
 use Rattle.tables.specs.declared.Kind.{Kind}
@@ -143,16 +142,16 @@ wrong_suspension call q = cond (eqb call 4) q.suspended (cond (eqb call 5) (not 
 
 -- ---- 48 to 51: what the parcel, the structure and its lines say
 
-abbrev pub holds_bytes : Holding → Bool
-holds_bytes Nothing = false
-holds_bytes (Bytes n) = true
+abbrev pub holds_bytes : Option ℕ → Bool
+holds_bytes None = false
+holds_bytes (Some n) = true
 
 -- Calls 18 to 21
 abbrev pub moves : ℕ → Bool
 moves call = both (leb 18 call) (leb call 21)
 
 -- 48: calls 18 to 21 by a process whose parcel holds uncollected bytes
-unfoldable pub uncollected : ℕ → ℕ → Holding → Bool
+unfoldable pub uncollected : ℕ → ℕ → Option ℕ → Bool
 uncollected call caller holds = both (moves call) (both (eqb caller 1) (holds_bytes holds))
 
 -- The size of a ring; of anything else no length is above it

@@ -30,7 +30,6 @@ ghost use Rattle.refusals.specs.Refusals.{
   refused_creation,
 };
 
-use bay::Holding;
 use calls::{Amount, Data, Deed, Number, Row, Small};
 use records::Record;
 use tables::{Kind, Process, Structure, Tables};
@@ -254,12 +253,12 @@ fn early(t: Tables, r: Record, row: Row, process: Process, kind: Kind) -> u8
 }
 
 // Does a parcel hold bytes?
-fn holds_bytes(holds: Holding) -> bool
+fn holds_bytes(holds: Option<u8>) -> bool
     ensures { result ≡ holds_bytes holds }
 {
     match holds {
-        Holding::Nothing => false,
-        Holding::Bytes(_) => true,
+        None => false,
+        Some(_) => true,
     }
 }
 

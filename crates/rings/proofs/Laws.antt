@@ -6,7 +6,7 @@ use mathlib.Core.List.{List, [], ◌∷◌, ◌++◌, map, append-nil, append_as
 use lib.Dec.{eqb, leb}
 use Rattle.basics.specs.Tests.{test, holds, fails}
 use Rattle.arrivals.specs.Order.{first, keep}
-use Rattle.bay.specs.declared.Holding.TheVariants.{Bytes}
+use Rattle.std.specs.Prelude.{Some}
 use Rattle.bay.specs.declared.Parcel.{Parcel}
 use Rattle.bay.specs.declared.Moved.{Moved}
 use Rattle.bay.specs.declared.Ring.{Ring}
@@ -101,7 +101,7 @@ one_cleared kept front l i h k e =
 
 -- All are
 pub all_cleared : (b kept : List ℕ) (l i : ℕ) → l ≤ 64 → i ≡ 64 → length b ≡ 64 → length kept ≡ 64 → take i kept ≡ take l b ++ replicate (i - l) 0
-    → record { bytes = kept; holds = Bytes l } ≡ parcel_of (take l b)
+    → record { bytes = kept; holds = Some l } ≡ parcel_of (take l b)
 unfolding parcel_of zeros
 all_cleared b kept l i h u long whole e =
     let front : length (take l b) ≡ l = length-take-le l b (omega arith) in
@@ -109,7 +109,7 @@ all_cleared b kept l i h u long whole e =
     rw (front, kept_is)
 
 -- Of 64 bytes or more the parcel has all
-pub all_kept : (b : List ℕ) (l : ℕ) → 64 ≤ l → length b ≡ 64 → record { bytes = b; holds = Bytes 64 } ≡ parcel_of (take l b)
+pub all_kept : (b : List ℕ) (l : ℕ) → 64 ≤ l → length b ≡ 64 → record { bytes = b; holds = Some 64 } ≡ parcel_of (take l b)
 unfolding parcel_of zeros
 all_kept b l h long = let whole : length b ≤ l = omega arith in rw (take_all l b whole, long, append-nil)
 

@@ -43,7 +43,7 @@ ghost use Rattle.rings.specs.Rings.{
 };
 
 use answers::{Answer, Outcome, Step};
-use bay::{Holding, Moved, Parcel, Ring};
+use bay::{Moved, Parcel, Ring};
 use tables::{Kind, Line, Place, Tables};
 
 // Who is to be served: how many bytes are held then, how far each line has been gone through, and who it is, in turn.
@@ -339,7 +339,7 @@ fn parcel_of(bytes: [u8; 64], l: u8) -> Parcel
     if 64 <= l {
         return Parcel {
             bytes: bytes,
-            holds: Holding::Bytes(64),
+            holds: Some(64),
         };
     }
     let mut kept = bytes;
@@ -350,7 +350,7 @@ fn parcel_of(bytes: [u8; 64], l: u8) -> Parcel
     }
     Parcel {
         bytes: kept,
-        holds: Holding::Bytes(l),
+        holds: Some(l),
     }
 }
 
@@ -587,7 +587,7 @@ pub fn collected(t: Tables) -> Step
     let bytes = parcel.bytes;
     let holds = parcel.holds;
     match holds {
-        Holding::Nothing => answers::plainly(t, Outcome::No),
-        Holding::Bytes(l) => collected_bytes(t, l, bytes),
+        None => answers::plainly(t, Outcome::No),
+        Some(l) => collected_bytes(t, l, bytes),
     }
 }

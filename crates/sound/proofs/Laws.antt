@@ -14,8 +14,7 @@ use Rattle.basics.specs.Tests.{test, holds, fails}
 use Rattle.arrivals.specs.Order.{one, count, keep, first}
 use Rattle.arrivals.specs.Listed.{one_same}
 use Rattle.arrivals.specs.Views.{head_of, keep_none}
-use Rattle.bay.specs.declared.Holding.{Holding}
-use Rattle.bay.specs.declared.Holding.TheVariants.{Nothing, Bytes}
+use Rattle.std.specs.Prelude.{Option, None, Some}
 use Rattle.bay.specs.Round.{table, tabled, get_d_table, length_table, set_table}
 use Rattle.tables.specs.declared.Process.{Process}
 use Rattle.tables.specs.declared.Structure.{Structure}
@@ -61,22 +60,22 @@ to_end l i n e = ap (drop i) (take_all n l (omega arith))
 
 -- ---- a parcel and a bay, by their stretches
 
-module _ (bytes : List ℕ) {held : Holding} (r : Bool) where
-  pub kept_nothing : held ≡ Nothing → length bytes ≡ 64 → r ≡ all_zero (slice 0 64 bytes) → r ≡ kept_as bytes held
+module _ (bytes : List ℕ) {held : Option ℕ} (r : Bool) where
+  pub kept_nothing : held ≡ None → length bytes ≡ 64 → r ≡ all_zero (slice 0 64 bytes) → r ≡ kept_as bytes held
   unfolding kept_as
   kept_nothing e long h = rw (e, eq-eqb (length bytes) 64 long) (h ∙ ap all_zero (to_end bytes 0 64 long))
 
-  pub kept_bytes : (l : ℕ) → held ≡ Bytes l → (l ≡ 0 → ⊥) → l ≤ 64 → length bytes ≡ 64 → r ≡ all_zero (slice l 64 bytes) → r ≡ kept_as bytes held
+  pub kept_bytes : (l : ℕ) → held ≡ Some l → (l ≡ 0 → ⊥) → l ≤ 64 → length bytes ≡ 64 → r ≡ all_zero (slice l 64 bytes) → r ≡ kept_as bytes held
   unfolding kept_as
   kept_bytes l e some most long h =
       rw (e, le-leb 1 l (omega arith), le-leb l 64 most, eq-eqb (length bytes) 64 long) (h ∙ ap all_zero (to_end bytes l 64 long))
 
 -- no parcel holds 0 bytes, or more than 64
-pub kept_none : (bytes : List ℕ) (held : Holding) (l : ℕ) → held ≡ Bytes l → l ≡ 0 → false ≡ kept_as bytes held
+pub kept_none : (bytes : List ℕ) (held : Option ℕ) (l : ℕ) → held ≡ Some l → l ≡ 0 → false ≡ kept_as bytes held
 unfolding kept_as
 kept_none bytes held l e z = rw (e, z)
 
-pub kept_many : (bytes : List ℕ) (held : Holding) (l : ℕ) → held ≡ Bytes l → 64 < l → false ≡ kept_as bytes held
+pub kept_many : (bytes : List ℕ) (held : Option ℕ) (l : ℕ) → held ≡ Some l → 64 < l → false ≡ kept_as bytes held
 unfolding kept_as
 kept_many bytes held l e h = rw (e, lt-leb l 64 h, le-leb 1 l (omega arith))
 

@@ -41,7 +41,7 @@ ghost use Rattle.sound.specs.Tested.{
   sound_b,
 };
 
-use bay::{Holding, Parcel, Ring};
+use bay::{Parcel, Ring};
 use tables::{Kind, Place, Process, Structure, Tables};
 
 // Are the bytes from one place up to another all zero?
@@ -267,28 +267,28 @@ fn asks_fits(kind: Kind, size: u16, l: u8) -> bool
 }
 
 // Does a parcel hold nothing?
-fn holds_nothing(holds: Holding) -> bool
+fn holds_nothing(holds: Option<u8>) -> bool
     ensures { result ≡ holds_nothing holds }
 {
     match holds {
-        Holding::Nothing => true,
-        Holding::Bytes(_) => false,
+        None => true,
+        Some(_) => false,
     }
 }
 
 // Does it hold exactly so many bytes?
-fn holds_bytes(l: u8, holds: Holding) -> bool
+fn holds_bytes(l: u8, holds: Option<u8>) -> bool
     ensures { result ≡ holds_bytes l holds }
 {
     match holds {
-        Holding::Nothing => false,
-        Holding::Bytes(k) => k == l,
+        None => false,
+        Some(k) => k == l,
     }
 }
 
 // Does all that goes with a process's place fit it: the structure that it names, with the size of its ring, the priority
 // and suspension, and what the parcel holds?
-fn place_fits(kind: Kind, size: u16, process: Process, holds: Holding) -> bool
+fn place_fits(kind: Kind, size: u16, process: Process, holds: Option<u8>) -> bool
     ensures { result ≡ place_tested kind size process holds process.place }
 {
     let place = process.place;
@@ -326,8 +326,8 @@ fn parcel_fits(parcel: Parcel) -> bool
 {
     let holds = parcel.holds;
     match holds {
-        Holding::Nothing => parcel_is_zero(parcel, 0),
-        Holding::Bytes(l) => {
+        None => parcel_is_zero(parcel, 0),
+        Some(l) => {
             if l == 0 {
                 return false;
             }

@@ -2,10 +2,10 @@
 use Rattle.rings.specs.Rings.{collected, collected_from}
 use Rattle.rings.proofs.collected.Goals as goal
 
-pub returns-in-Nothing : goal.returns-in-Nothing
+pub returns-in-None : goal.returns-in-None
 unfolding collected collected_from
-returns-in-Nothing c = simp (c.in-Nothing.is, ← c.plainly.ensures, ← c.parcel_for-parcel.ensures)
+returns-in-None c = simp (c.in-None.is, ← c.plainly.ensures, ← c.parcel_for-parcel.ensures)
 
-pub returns-in-Bytes : goal.returns-in-Bytes
+pub returns-in-Some : goal.returns-in-Some
 unfolding collected collected_from
-returns-in-Bytes c = simp (c.in-Bytes.is, ← c.collected_bytes.ensures, ← c.parcel_for-parcel.ensures)
+returns-in-Some c = simp (c.in-Some.is, ← c.collected_bytes.ensures, ← c.parcel_for-parcel.ensures)
