@@ -2,78 +2,42 @@
 // each free place. Every line of the panel is a view of it.
 #![tactic(auto)]
 
-ghost use Rattle.std.specs.Prelude.{◌<◌, ◌≡◌, [], ◌∷◌, ◌++◌};
-ghost use Rattle.arrivals.specs.Order.{ahead, cut, joined, moved_last, deleted};
+ghost use Rattle.std.specs.Prelude.{◌≡◌, ◌==◌, position};
+ghost use Rattle.arrivals.specs.Order.{joined, moved_last, deleted};
 
-// How many stand before x; 32 where x is not listed.
-fn place_of(order: [u8; 32], x: u8) -> usize
-    ensures { result ≡ ahead x order }
+// Where x stands, if it is listed.
+fn place_of(order: &[u8; 32], x: u8) -> Option<usize>
+    ensures { result ≡ position (λ y. y == x) order.now }
 {
-    let mut i: usize = 0;
-    while i < 32 {
-        if order[i] == x {
-            return i;
-        }
-        i += 1;
-    }
-    i
-}
-
-// The one at place k goes, those behind it move up, and x stands last.
-fn moved_up(order: [u8; 32], k: usize, x: u8) -> [u8; 32]
-    requires { k < 32 }
-    ensures { result ≡ cut k order ++ (x ∷ []) }
-{
-    let mut r = order;
-    let mut i = k;
-    while i < 31 {
-        r[i] = r[i + 1];
-        i += 1;
-    }
-    r[31] = x;
-    r
-}
-
-// The one at place k goes, those before it move down, and a zero stands first.
-fn moved_down(order: [u8; 32], k: usize) -> [u8; 32]
-    requires { k < 32 }
-    ensures { result ≡ 0 ∷ cut k order }
-{
-    let mut r = order;
-    let mut i = k;
-    while 0 < i {
-        r[i] = r[i - 1];
-        i -= 1;
-    }
-    r[0] = 0;
-    r
+    order.iter().position(|y| *y == x)
 }
 
 // A new process joins: the oldest place, a zero, makes room, and x stands last.
-pub fn joined(order: [u8; 32], x: u8) -> [u8; 32]
+pub fn joined(mut order: [u8; 32], x: u8) -> [u8; 32]
     ensures { result ≡ joined x order }
 {
-    moved_up(order, 0, x)
+    order.rotate_left(1);
+    order[31] = x;
+    order
 }
 
 // x joins a line: it goes to the end. One that is not listed changes nothing.
-pub fn moved_last(order: [u8; 32], x: u8) -> [u8; 32]
+pub fn moved_last(mut order: [u8; 32], x: u8) -> [u8; 32]
     ensures { result ≡ moved_last x order }
 {
-    let k = place_of(order, x);
-    if 32 <= k {
-        return order;
+    if let Some(k) = place_of(&order, x) {
+        order[k..].rotate_left(1);
     }
-    moved_up(order, k, x)
+    order
 }
 
 // x is deleted: it goes, and there is one zero more in front. One that is not listed changes nothing.
-pub fn deleted(order: [u8; 32], x: u8) -> [u8; 32]
+pub fn deleted(mut order: [u8; 32], x: u8) -> [u8; 32]
     ensures { result ≡ deleted x order }
 {
-    let k = place_of(order, x);
-    if 32 <= k {
-        return order;
+    if let Some(k) = place_of(&order, x) {
+        order[..k + 1].rotate_right(1);
+        order[0] = 0;
     }
-    moved_down(order, k)
+    order
 }

@@ -1,23 +1,16 @@
--- `arrivals::deleted` meets its contract: x is listed exactly when its place is below 32. Assumes nothing.
-use mathlib.Core.Path.{◌≡◌, ◌∙◌}
-use native.Mathlib.Omega.{arith}
-use borrow.Author.Rules.{rules}
-use lib.ListN.{length}
+-- `arrivals::deleted` meets its contract: x is found exactly when it is listed. Assumes nothing.
+use Rattle.std.proofs.Common.{sym, ◌∙◌}
 use Rattle.arrivals.specs.Order.{deleted}
-use Rattle.arrivals.proofs.Laws.{placed, not_placed, cut_there}
+use Rattle.arrivals.proofs.Laws.{found, missed, turned_first}
 use Rattle.arrivals.proofs.deleted.Goals as goal
 
-pub returns-then-k-ge32 : goal.returns-then-k-ge32
+pub returns-in-Some : goal.returns-in-Some
 unfolding deleted
-returns-then-k-ge32 c =
-    let a = c.args in
-    let places : length a.order ≡ 32 = search rules in
-    rw (not_placed a.x a.order (omega arith))
+returns-in-Some c =
+    let order = c.args.order in
+    let at = found c.args.x order c.in-Some.k (sym c.place_of.ensures ∙ c.in-Some.is) in
+    rw at.0 (turned_first order _ c.args.x _ at.1 at.2 c.rotate_right.ensures.after)
 
-pub returns : goal.returns
+pub returns-in_default : goal.returns-in_default
 unfolding deleted
-returns c =
-    let a = c.args in
-    let places : length a.order ≡ 32 = search rules in
-    c.moved_down.ensures
-    ∙ rw (placed a.x a.order (omega arith), cut_there c.place_of-k.result a.x a.order c.place_of-k.ensures)
+returns-in_default c = rw (missed c.args.x c.args.order (sym c.place_of.ensures ∙ c.in_default.is))
