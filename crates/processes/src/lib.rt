@@ -285,7 +285,7 @@ fn ready_has(t: Tables, priority: u8) -> bool
 fn head_runs(t: Tables) -> Tables
     ensures { result ≡ head_runs t }
 {
-    ready::runs(t, tables::ready_head(t))
+    ready::runs(t, tables::ready_head(t).unwrap_or(0))
 }
 
 // Schedule: if a ready process has the caller's priority, the caller goes behind its equals and the head runs.

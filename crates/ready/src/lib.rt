@@ -142,7 +142,7 @@ fn goes(head: u8, running: u8, newcomer: u8, runner: u8) -> bool
 pub fn dispatched(t: Tables) -> Tables
     ensures { result ≡ dispatched t }
 {
-    let head = tables::ready_head(t);
+    let head = tables::ready_head(t).unwrap_or(0);
     let mut running = t.running;
     let mut order = t.order;
     let mut processes = t.processes;

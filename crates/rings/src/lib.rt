@@ -395,7 +395,7 @@ fn way_into_ring(t: Tables, n: u8, l: u8, b: u8) -> Way
     ensures { result ≡ way_into_ring n l b (ring_in t b) t }
 {
     let ring = tables::ring_in(t, b);
-    let head = tables::head_of(t, Line::Putters(n));
+    let head = tables::head_of(t, Line::Putters(n)).unwrap_or(0);
     let room = ring.held as usize + l as usize <= ring.size as usize;
     way_of(b, ring.size, l, head, room)
 }
@@ -419,7 +419,7 @@ fn way_out_of_ring(t: Tables, n: u8, l: u8, b: u8) -> Way
     ensures { result ≡ way_out_of_ring n l b (ring_in t b) t }
 {
     let ring = tables::ring_in(t, b);
-    let head = tables::head_of(t, Line::Getters(n));
+    let head = tables::head_of(t, Line::Getters(n)).unwrap_or(0);
     let bytes = l as u16 <= ring.held;
     way_of(b, ring.size, l, head, bytes)
 }

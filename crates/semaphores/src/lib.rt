@@ -147,10 +147,9 @@ pub fn conditionally_waited(t: Tables, n: u8) -> Step
 fn signalled_at(t: Tables, n: u8, kind: Kind) -> Tables
     ensures { result ≡ signalled_at n t kind }
 {
-    let p = tables::head_of(t, Line::Semaphore(n));
-    if p == 0 {
+    let Some(p) = tables::head_of(t, Line::Semaphore(n)) else {
         return with_kind(t, n, raised(kind));
-    }
+    };
     ready::released(t, p)
 }
 
@@ -169,10 +168,9 @@ pub fn signalled(t: Tables, n: u8) -> Step
 pub fn conditionally_signalled(t: Tables, n: u8) -> Step
     ensures { result ≡ conditionally_signalled n t }
 {
-    let p = tables::head_of(t, Line::Semaphore(n));
-    if p == 0 {
+    let Some(p) = tables::head_of(t, Line::Semaphore(n)) else {
         return answers::plainly(t, Outcome::No);
-    }
+    };
     if tables::is_semaphore(kind_of(t, n)) {
         return answers::plainly(ready::released(t, p), Outcome::Done);
     }

@@ -9,7 +9,7 @@ use native.Mathlib.Numerals.{add-one}
 use lib.Dec.{eqb, leb, ltb}
 use lib.ListN.{length, get_or, set, take, drop, replicate, length-set, take-append-drop, drop_of_length-le}
 use lib.Seq.{drop-cons, take-suc-set, drop-set-lt, length-take-le, drop-drop}
-use borrow.Author.Tests.{eqb-true, eqb-false, leb-true, leb-false, ltb-false, lt-ltb, le-ltb}
+use borrow.Author.Tests.{ne_eqb, eqb-true, eqb-false, leb-true, leb-false, ltb-false, lt-ltb, le-ltb}
 use Rattle.arrivals.specs.Order.{keep, first}
 use Rattle.basics.specs.Tests.{test, holds, fails}
 use Rattle.tables.specs.declared.Process.{Process}
@@ -20,7 +20,14 @@ use Rattle.tables.specs.declared.Line.TheVariants as lines
 use Rattle.tables.specs.Laws.{numbered_zero, numbered_past, numbered_at, replaced_zero, replaced_past, replaced_at}
 use Rattle.tables.specs.Numbers.{code}
 use Rattle.tables.specs.Access.{numbered, replaced, nobody}
-use Rattle.tables.specs.Lines.{is_number, stands, waits_at, urgency, behind_equals, by_urgency, better, padded}
+use Rattle.std.proofs.lemmas.Bool.Decides.{nat_tests}
+use Rattle.std.proofs.Common.{is_le, nat_cmp, ◌&&◌, Some}
+use Rattle.std.specs.Option.{option_eq}
+use Rattle.std.specs.List.{find, filter}
+use Rattle.tables.specs.Numbers.{somebody}
+use Rattle.tables.specs.Lines.{standing}
+use Rattle.tables.specs.contracts.LinePartialEq as same_line
+use Rattle.tables.specs.Lines.{line_at, is_number, stands, waits_at, urgency, behind_equals, by_urgency, better, padded}
 
 -- The places have numbers up to 7
 pub small : (x : Place) → code x ≤ 7
@@ -167,3 +174,87 @@ anew l p n x long =
     (⊎_elim
     (λ w. w.1 ∙ sym (replaced_past l p x (omega (arith, w.0))))
     (λ w. w.1 ∙ sym (replaced_zero l p x (omega (arith, w.0)))))
+
+-- ---- tests
+
+-- The numbers from 1 to 32
+pub number_within : (x : ℕ) → (is_le (nat_cmp 1 x) && is_le (nat_cmp x 32)) ≡ is_number x
+unfolding is_number
+number_within x = grind (arith, nat_tests)
+
+-- Who stands in a line is in a place of that line
+pub line_stands : (which : Line) (place : Place) → option_eq same_line.TheImpl.eq-value.it (line_at place) (Some which) ≡ stands which place
+unfolding stands
+line_stands lines.Ready Nowhere = refl
+line_stands lines.Parked Nowhere = refl
+line_stands (lines.Semaphore m) Nowhere = refl
+line_stands (lines.Getters m) Nowhere = refl
+line_stands (lines.Putters m) Nowhere = refl
+line_stands lines.Sleepers Nowhere = refl
+line_stands lines.Ready Running = refl
+line_stands lines.Parked Running = refl
+line_stands (lines.Semaphore m) Running = refl
+line_stands (lines.Getters m) Running = refl
+line_stands (lines.Putters m) Running = refl
+line_stands lines.Sleepers Running = refl
+line_stands lines.Ready Ready = refl
+line_stands lines.Parked Ready = refl
+line_stands (lines.Semaphore m) Ready = refl
+line_stands (lines.Getters m) Ready = refl
+line_stands (lines.Putters m) Ready = refl
+line_stands lines.Sleepers Ready = refl
+line_stands lines.Ready Parked = refl
+line_stands lines.Parked Parked = refl
+line_stands (lines.Semaphore m) Parked = refl
+line_stands (lines.Getters m) Parked = refl
+line_stands (lines.Putters m) Parked = refl
+line_stands lines.Sleepers Parked = refl
+line_stands lines.Ready (Waiting n) = refl
+line_stands lines.Parked (Waiting n) = refl
+line_stands (lines.Semaphore m) (Waiting n) = refl
+line_stands (lines.Getters m) (Waiting n) = refl
+line_stands (lines.Putters m) (Waiting n) = refl
+line_stands lines.Sleepers (Waiting n) = refl
+line_stands lines.Ready (Getting n k) = refl
+line_stands lines.Parked (Getting n k) = refl
+line_stands (lines.Semaphore m) (Getting n k) = refl
+line_stands (lines.Getters m) (Getting n k) = refl
+line_stands (lines.Putters m) (Getting n k) = refl
+line_stands lines.Sleepers (Getting n k) = refl
+line_stands lines.Ready (Putting n k) = refl
+line_stands lines.Parked (Putting n k) = refl
+line_stands (lines.Semaphore m) (Putting n k) = refl
+line_stands (lines.Getters m) (Putting n k) = refl
+line_stands (lines.Putters m) (Putting n k) = refl
+line_stands lines.Sleepers (Putting n k) = refl
+line_stands lines.Ready (Asleep k) = refl
+line_stands lines.Parked (Asleep k) = refl
+line_stands (lines.Semaphore m) (Asleep k) = refl
+line_stands (lines.Getters m) (Asleep k) = refl
+line_stands (lines.Putters m) (Asleep k) = refl
+line_stands lines.Sleepers (Asleep k) = refl
+
+-- Who stands in a line is somebody
+pub stands_somebody : (which : Line) (ps : List Process) (x : ℕ) → standing which ps x ≡ true → somebody x ≡ Some x
+unfolding numbered
+stands_somebody which ps x e = rw (ne_eqb x 0 (λ z. true≢false (sym e ∙ rw z (nowhere which))))
+
+-- A line's head is the first of the order who stands in it
+pub head_found : (which : Line) (ps : List Process) (l : List ℕ) → somebody (first (keep (standing which ps) l)) ≡ find (standing which ps) l
+unfolding numbered
+head_found which ps [] = refl
+head_found which ps (a ∷ l) =
+    elim (test (standing which ps a)) [
+      | holds e ↦ rw e (stands_somebody which ps a e)
+      | fails e ↦ rw e (head_found which ps l)
+    ]
+
+-- A view is a filtered list
+pub kept : (f : ℕ → Bool) (l : List ℕ) → filter f l ≡ keep f l
+kept f [] = refl
+kept f (a ∷ l) = elim (test (f a)) [ holds e ↦ rw e (ap (λ (r : List ℕ). a ∷ r) (kept f l)) | fails e ↦ rw e (kept f l) ]
+
+-- What is left of a view from place i of a list on
+pub next : (f : ℕ → Bool) (l : List ℕ) (i : ℕ) → i < length l
+    → keep f (drop i l) ≡ cond (f (get_or l i 0)) (get_or l i 0 ∷ keep f (drop (i + 1) l)) (keep f (drop (i + 1) l))
+next f l i h = rw (add-one, drop-cons l i 0)

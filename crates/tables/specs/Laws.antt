@@ -1,6 +1,7 @@
 -- What the accessors read: outside the numbers, within them, and after one entry was changed.
-use Rattle.std.specs.Prelude.{ℕ, ◌-◌, ◌≤◌, ◌<◌, ◌≡◌, List, eqb, leb, length, get_or, set}
-use Rattle.std.proofs.Common.{ap, arith, length-set, get_or-set_same, get_or-set_other}
+use Rattle.std.specs.Prelude.{ℕ, ◌-◌, ◌≤◌, ◌<◌, ◌≡◌, List, eqb, leb, length, get_or, set, Option, None, Some, unwrap_or}
+use Rattle.tables.specs.Numbers.{somebody}
+use Rattle.std.proofs.Common.{sym, ◌∙◌, ap, arith, length-set, get_or-set_same, get_or-set_other}
 use Rattle.std.proofs.Math.ListN.{get_or-eq_default}
 use Rattle.std.proofs.Math.Seq.{set_out}
 use borrow.Author.Tests.{eq-eqb, ne_eqb, eqb-true, eqb-false, leb-true, leb-false}
@@ -72,3 +73,25 @@ module _ {A : Type 0} (l : List A) (p : ℕ) (x : A) where
             ]
         | fails s ↦ ap g (replaced_other q d (eqb-false q p s))
       ]
+
+-- ---- somebody, or nobody
+
+module _ (x : ℕ) where
+  -- Nobody is 0,
+  pub nobody_is : somebody x ≡ None → x ≡ 0
+  nobody_is h = elim (test (eqb x 0)) [ holds e ↦ eqb-true x 0 e | fails e ↦ let k : Some x ≡ None = rw e at h in cc ]
+
+  -- somebody is that number, and not 0,
+  pub somebody_is : (p : ℕ) → somebody x ≡ Some p → p ≡ x
+  somebody_is p h = elim (test (eqb x 0)) [ holds e ↦ let k : None ≡ Some p = rw e at h in cc | fails e ↦ let k : Some x ≡ Some p = rw e at h in cc ]
+
+  pub somebody_not : (p : ℕ) → somebody x ≡ Some p → p ≡ 0 → ⊥
+  somebody_not p h z =
+      elim (test (eqb x 0)) [
+        | holds e ↦ let k : None ≡ Some p = rw e at h in cc
+        | fails e ↦ eqb-false x 0 e (sym (somebody_is p h) ∙ z)
+      ]
+
+  -- and nobody counts as 0
+  pub somebody_or : {r : Option ℕ} → r ≡ somebody x → unwrap_or r 0 ≡ x
+  somebody_or h = elim (test (eqb x 0)) [ holds e ↦ rw (h, e) (sym (eqb-true x 0 e)) | fails e ↦ rw (h, e) ]

@@ -1,9 +1,10 @@
 -- The lines: each is a view of the one arrival order.
-use Rattle.std.specs.Prelude.{ℕ, suc, ◌-◌, List, [], ◌∷◌, ◌++◌, Bool, false, cond, eqb, leb, ltb, length, replicate}
+use Rattle.std.specs.Prelude.{ℕ, suc, ◌-◌, List, [], ◌∷◌, ◌++◌, Bool, false, cond, eqb, leb, ltb, length, replicate, Option, None, Some}
 use Rattle.arrivals.specs.Order.{keep}
 use Rattle.tables.specs.declared.Tables.{Tables}
 use Rattle.tables.specs.declared.Process.{Process}
 use Rattle.tables.specs.declared.Place.{Place}
+use Rattle.tables.specs.declared.Place.TheVariants.{Nowhere, Running, Ready, Parked, Waiting, Getting, Putting, Asleep}
 use Rattle.tables.specs.declared.Line.{Line}
 use Rattle.tables.specs.declared.Line.TheVariants as lines
 use Rattle.tables.specs.Numbers.{code, spot}
@@ -25,6 +26,17 @@ line_spot (lines.Semaphore n) = n
 line_spot (lines.Getters n) = n
 line_spot (lines.Putters n) = n
 line_spot lines.Sleepers = 0
+
+-- The line in which a process in this place stands, if it stands in one
+abbrev pub line_at : Place → Option Line
+line_at Nowhere = None
+line_at Running = None
+line_at Ready = Some lines.Ready
+line_at Parked = Some lines.Parked
+line_at (Waiting n) = Some (lines.Semaphore n)
+line_at (Getting n k) = Some (lines.Getters n)
+line_at (Putting n k) = Some (lines.Putters n)
+line_at (Asleep k) = Some lines.Sleepers
 
 -- Does a process in this place stand in this line?
 unfoldable pub stands : Line → Place → Bool

@@ -1,5 +1,5 @@
 -- Document 01's numbers for what the tables keep as enums.
-use Rattle.std.specs.Prelude.{ℕ, ◌+◌, Bool, true, false, cond, leb}
+use Rattle.std.specs.Prelude.{ℕ, ◌+◌, Bool, true, false, cond, eqb, leb, Option, None, Some}
 use Rattle.tables.specs.declared.Process.{Process}
 use Rattle.tables.specs.declared.Place.{Place}
 use Rattle.tables.specs.declared.Place.TheVariants.{Nowhere, Running, Ready, Parked, Waiting, Getting, Putting, Asleep}
@@ -68,3 +68,7 @@ is_ring Free = false
 is_ring (Binary v) = false
 is_ring (Counting v) = false
 is_ring (Ring b) = true
+
+-- A number for somebody is above 0; 0 is nobody, or nothing
+abbrev pub somebody : ℕ → Option ℕ
+somebody x = cond (eqb x 0) None (Some x)

@@ -1,17 +1,29 @@
 // What the panel holds: processes, structures, ring bays and parcels, and who stands in which line.
-#![tactic(auto)]
+#![tactic(auto, unfolding(crate::specs::Access::fresh, crate::specs::Access::process_of, crate::specs::Access::structure_of, crate::specs::Access::ring_in, crate::specs::Access::parcel_for, crate::specs::Access::with_process, crate::specs::Access::with_structure, crate::specs::Access::with_ring, crate::specs::Access::with_parcel, crate::specs::Numbers::place_code, crate::specs::Lines::waits_at, crate::specs::Lines::urgency))]
 
-ghost use Rattle.std.specs.Prelude.{◌≡◌, cond, false, ◌+◌, ◌%◌};
+ghost use Rattle.std.specs.List.{find, filter};
+ghost use Rattle.std.specs.Prelude.{length, ◌≡◌, cond, false, ◌+◌, ◌%◌};
 ghost use Rattle.arrivals.specs.Order.{first};
-ghost use Rattle.tables.specs.Numbers.{code, spot, place_code, kind_number, is_live, is_semaphore, is_ring};
+ghost use Rattle.tables.specs.Numbers.{
+  code,
+  spot,
+  place_code,
+  kind_number,
+  is_live,
+  is_semaphore,
+  is_ring,
+  somebody,
+};
 ghost use Rattle.tables.specs.Lines.{
-  line_code,
-  line_spot,
+  line_at,
   is_number,
   stands,
+  standing,
   line,
   waits_at,
+  waiting_at,
   in_lines_of,
+  urgency,
   ready_line,
   padded,
 };
@@ -19,6 +31,8 @@ ghost use Rattle.tables.specs.Access.{
   nobody,
   nothing,
   fresh,
+  numbered,
+  replaced,
   process_of,
   structure_of,
   ring_in,
@@ -32,7 +46,7 @@ ghost use Rattle.tables.specs.Access.{
 use bay::{Parcel, Ring};
 
 // Where a live process is; a number that is not live is nowhere.
-#[derive(Clone, Copy)]
+#[derive(Clone, Copy, PartialEq, Eq)]
 pub enum Place {
     Nowhere,
     Running,
@@ -57,7 +71,7 @@ pub struct Process {
 }
 
 // What a structure is, with its value; of a ring, the number of its bay.
-#[derive(Clone, Copy)]
+#[derive(Clone, Copy, PartialEq, Eq)]
 pub enum Kind {
     Free,
     Binary(u8),
@@ -72,7 +86,7 @@ pub struct Structure {
 
 // A line of processes: the ready line, the parked line, a semaphore's line, the getters and the putters of a ring, the
 // sleepers.
-#[derive(Clone, Copy)]
+#[derive(Clone, Copy, PartialEq, Eq)]
 pub enum Line {
     Ready,
     Parked,
@@ -126,124 +140,86 @@ pub fn fresh() -> Tables
     }
 }
 
+// The entry of a table that has the number n, counted from 1; the given one where there is none.
+pub fn numbered<T: Copy>(table: &[T], n: u8, none: T) -> T
+    ensures { result ≡ numbered table.now n none }
+{
+    let Some(i) = usize::from(n).checked_sub(1) else {
+        return none;
+    };
+    if i < table.len() { table[i] } else { none }
+}
+
+// A table with x as the entry that has the number n; as it was where there is none.
+fn replace<T: Copy>(table: &mut [T], n: u8, x: T)
+    ensures { table.new ≡ replaced table.old n x }
+{
+    let Some(i) = usize::from(n).checked_sub(1) else {
+        return;
+    };
+    if i < table.len() {
+        table[i] = x;
+    }
+}
+
 // The process with number p, or nobody.
 pub fn process_at(t: Tables, p: u8) -> Process
     ensures { result ≡ process_of t p }
 {
-    if p == 0 {
-        return nobody();
-    }
-    if 32 < p {
-        return nobody();
-    }
-    let i = (p - 1) as usize;
-    let processes = t.processes;
-    processes[i]
+    numbered(&t.processes, p, nobody())
 }
 
 // The structure with number n, or nothing.
 pub fn structure_at(t: Tables, n: u8) -> Structure
     ensures { result ≡ structure_of t n }
 {
-    if n == 0 {
-        return nothing();
-    }
-    if 24 < n {
-        return nothing();
-    }
-    let i = (n - 1) as usize;
-    let structures = t.structures;
-    structures[i]
+    numbered(&t.structures, n, nothing())
 }
 
 // The ring in bay b, or an empty bay.
 pub fn ring_in(t: Tables, b: u8) -> Ring
     ensures { result ≡ ring_in t b }
 {
-    if b == 0 {
-        return bay::empty_bay();
-    }
-    if 8 < b {
-        return bay::empty_bay();
-    }
-    let i = (b - 1) as usize;
-    let rings = t.rings;
-    rings[i]
+    numbered(&t.rings, b, bay::empty_bay())
 }
 
 // The parcel of process p, or an empty one.
 pub fn parcel_for(t: Tables, p: u8) -> Parcel
     ensures { result ≡ parcel_for t p }
 {
-    if p == 0 {
-        return bay::empty_parcel();
-    }
-    if 32 < p {
-        return bay::empty_parcel();
-    }
-    let i = (p - 1) as usize;
-    let parcels = t.parcels;
-    parcels[i]
+    numbered(&t.parcels, p, bay::empty_parcel())
 }
 
 // The tables with process p anew; as they were where there is no such number.
-pub fn with_process(t: Tables, p: u8, process: Process) -> Tables
+pub fn with_process(mut t: Tables, p: u8, process: Process) -> Tables
     ensures { result ≡ with_process t p process }
 {
-    let mut processes = t.processes;
-    if 1 <= p {
-        if p <= 32 {
-            processes[(p - 1) as usize] = process;
-        }
-    }
-    let mut next = t;
-    next.processes = processes;
-    next
+    replace(&mut t.processes, p, process);
+    t
 }
 
 // The tables with structure n anew; as they were where there is no such number.
-pub fn with_structure(t: Tables, n: u8, structure: Structure) -> Tables
+pub fn with_structure(mut t: Tables, n: u8, structure: Structure) -> Tables
     ensures { result ≡ with_structure t n structure }
 {
-    let mut structures = t.structures;
-    if 1 <= n {
-        if n <= 24 {
-            structures[(n - 1) as usize] = structure;
-        }
-    }
-    let mut next = t;
-    next.structures = structures;
-    next
+    replace(&mut t.structures, n, structure);
+    t
 }
 
 // The tables with the ring in bay b anew; as they were where there is no such number.
-pub fn with_ring(t: Tables, b: u8, ring: Ring) -> Tables
+pub fn with_ring(mut t: Tables, b: u8, ring: Ring) -> Tables
     ensures { result ≡ with_ring t b ring }
 {
-    let mut rings = t.rings;
-    if 1 <= b {
-        if b <= 8 {
-            rings[(b - 1) as usize] = ring;
-        }
-    }
-    let mut next = t;
-    next.rings = rings;
-    next
+    replace(&mut t.rings, b, ring);
+    t
 }
 
 // The tables with the parcel of process p anew; as they were where there is no such number.
-pub fn with_parcel(t: Tables, p: u8, parcel: Parcel) -> Tables
+pub fn with_parcel(mut t: Tables, p: u8, parcel: Parcel) -> Tables
     ensures { result ≡ with_parcel t p parcel }
 {
-    let mut parcels = t.parcels;
-    if 1 <= p {
-        if p <= 32 {
-            parcels[(p - 1) as usize] = parcel;
-        }
-    }
-    let mut next = t;
-    next.parcels = parcels;
-    next
+    replace(&mut t.parcels, p, parcel);
+    t
 }
 
 // Document 01's number of a place, 0 for nowhere.
@@ -267,14 +243,8 @@ pub fn spot_of(place: Place) -> u8
     ensures { result ≡ spot place }
 {
     match place {
-        Place::Nowhere => 0,
-        Place::Running => 0,
-        Place::Ready => 0,
-        Place::Parked => 0,
-        Place::Waiting(n) => n,
-        Place::Getting(n, _) => n,
-        Place::Putting(n, _) => n,
-        Place::Asleep(_) => 0,
+        Place::Waiting(n) | Place::Getting(n, _) | Place::Putting(n, _) => n,
+        _ => 0,
     }
 }
 
@@ -282,12 +252,9 @@ pub fn spot_of(place: Place) -> u8
 pub fn place_code(process: Process) -> u8
     ensures { result ≡ place_code process }
 {
-    let place = process.place;
-    let code = code_of(place);
-    if process.suspended {
-        if 4 <= code {
-            return code + 16;
-        }
+    let code = code_of(process.place);
+    if process.suspended && 4 <= code {
+        return code + 16;
     }
     code
 }
@@ -308,63 +275,35 @@ pub fn kind_number(kind: Kind) -> u8
 pub fn is_live(kind: Kind) -> bool
     ensures { result ≡ is_live kind }
 {
-    match kind {
-        Kind::Free => false,
-        Kind::Binary(_) => true,
-        Kind::Counting(_) => true,
-        Kind::Ring(_) => true,
-    }
+    !matches!(kind, Kind::Free)
 }
 
 // Is it a semaphore?
 pub fn is_semaphore(kind: Kind) -> bool
     ensures { result ≡ is_semaphore kind }
 {
-    match kind {
-        Kind::Free => false,
-        Kind::Binary(_) => true,
-        Kind::Counting(_) => true,
-        Kind::Ring(_) => false,
-    }
+    matches!(kind, Kind::Binary(_) | Kind::Counting(_))
 }
 
 // Is it a ring?
 pub fn is_ring(kind: Kind) -> bool
     ensures { result ≡ is_ring kind }
 {
-    match kind {
-        Kind::Free => false,
-        Kind::Binary(_) => false,
-        Kind::Counting(_) => false,
-        Kind::Ring(_) => true,
-    }
+    matches!(kind, Kind::Ring(_))
 }
 
-// The place number of those who stand in a line.
-fn line_code(which: Line) -> u8
-    ensures { result ≡ line_code which }
+// The line in which a process in this place stands, if it stands in one.
+fn line_at(place: Place) -> Option<Line>
+    ensures { result ≡ line_at place }
 {
-    match which {
-        Line::Ready => 2,
-        Line::Parked => 3,
-        Line::Semaphore(_) => 4,
-        Line::Getters(_) => 5,
-        Line::Putters(_) => 6,
-        Line::Sleepers => 7,
-    }
-}
-
-// The structure whose line it is, or 0.
-fn line_spot(which: Line) -> u8
-    ensures { result ≡ line_spot which }
-{
-    match which {
-        Line::Ready => 0,
-        Line::Parked => 0,
-        Line::Semaphore(n) => n,
-        Line::Getters(n) => n,
-        Line::Putters(n) => n,
-        Line::Sleepers => 0,
+    match place {
+        Place::Nowhere | Place::Running => None,
+        Place::Ready => Some(Line::Ready),
+        Place::Parked => Some(Line::Parked),
+        Place::Waiting(n) => Some(Line::Semaphore(n)),
+        Place::Getting(n, _) => Some(Line::Getters(n)),
+        Place::Putting(n, _) => Some(Line::Putters(n)),
+        Place::Asleep(_) => Some(Line::Sleepers),
     }
 }
 
@@ -375,124 +314,111 @@ pub fn entry_of(x: u8) -> usize
     (x as usize + 31) % 32
 }
 
+// Is x the number of a process?
+pub fn is_number(x: u8) -> bool
+    ensures { result ≡ is_number x }
+{
+    (1..=32).contains(&x)
+}
+
 // Does x, whose entry has this place, stand in the line?
 pub fn stands_in(x: u8, place: Place, which: Line) -> bool
     ensures { result ≡ cond (is_number x) (stands which place) false }
 {
-    if x == 0 {
-        return false;
-    }
-    if 32 < x {
-        return false;
-    }
-    if code_of(place) != line_code(which) {
-        return false;
-    }
-    spot_of(place) == line_spot(which)
+    is_number(x) && line_at(place) == Some(which)
 }
 
-// The head of a line, or nobody.
-pub fn head_of(t: Tables, which: Line) -> u8
-    ensures { result ≡ first (line which t) }
+// Does the process with number x stand in the line?
+pub fn stands(processes: &[Process; 32], x: u8, which: Line) -> bool
+    ensures { result ≡ standing which processes.now x }
 {
-    let order = t.order;
-    let processes = t.processes;
-    let mut i = 0;
-    while i < 32 {
-        let x = order[i];
-        let entry = processes[entry_of(x)];
-        let place = entry.place;
-        if stands_in(x, place, which) {
-            return x;
-        }
-        i += 1;
-    }
-    0
+    stands_in(x, processes[entry_of(x)].place, which)
+}
+
+// The first of the order who stands in the line, if anybody does.
+fn first_in(order: &[u8; 32], processes: &[Process; 32], which: Line) -> Option<u8>
+    ensures { result ≡ find (standing which processes.now) order.now }
+{
+    order.iter().copied().find(|x| stands(processes, *x, which))
+}
+
+// The head of a line, if it has one.
+pub fn head_of(t: Tables, which: Line) -> Option<u8>
+    ensures { result ≡ somebody (first (line which t)) }
+{
+    first_in(&t.order, &t.processes, which)
 }
 
 // A line in its order, zeros behind it.
 pub fn line_of(t: Tables, which: Line) -> [u8; 32]
     ensures { result ≡ padded (line which t) }
 {
-    let order = t.order;
-    let processes = t.processes;
     let mut members = [0; 32];
     let mut k = 0;
-    let mut i = 0;
-    while i < 32 {
-        let x = order[i];
-        let entry = processes[entry_of(x)];
-        let place = entry.place;
-        if stands_in(x, place, which) {
+    for x in t.order {
+        if stands(&t.processes, x, which) {
             members[k] = x;
             k += 1;
         }
-        i += 1;
     }
     members
 }
 
-// Does x, whose entry has this place, stand in a line of structure n?
-fn waits_at(x: u8, place: Place, n: u8) -> bool
-    ensures { result ≡ cond (is_number x) (waits_at n place) false }
+// Is this a place in a line of structure n?
+fn waits_at(place: Place, n: u8) -> bool
+    ensures { result ≡ waits_at n place }
 {
-    if x == 0 {
-        return false;
+    match place {
+        Place::Waiting(k) | Place::Getting(k, _) | Place::Putting(k, _) => k == n,
+        _ => false,
     }
-    if 32 < x {
-        return false;
-    }
-    let code = code_of(place);
-    if code < 4 {
-        return false;
-    }
-    if 6 < code {
-        return false;
-    }
-    spot_of(place) == n
+}
+
+// Does the process with number x stand in a line of structure n?
+fn waits(processes: &[Process; 32], x: u8, n: u8) -> bool
+    ensures { result ≡ waiting_at n processes.now x }
+{
+    waits_at(numbered(processes, x, nobody()).place, n)
+}
+
+// How many of the order stand in a line of structure n.
+fn how_many(order: &[u8; 32], processes: &[Process; 32], n: u8) -> usize
+    ensures { result ≡ length (filter (waiting_at n processes.now) order.now) }
+{
+    order.iter().filter(|x| waits(processes, **x, n)).count()
 }
 
 // How many stand in the lines of structure n.
 pub fn in_lines_of(t: Tables, n: u8) -> u8
     ensures { result ≡ in_lines_of n t }
 {
-    let order = t.order;
-    let processes = t.processes;
-    let mut k = 0;
-    let mut i = 0;
-    while i < 32 {
-        let x = order[i];
-        let entry = processes[entry_of(x)];
-        let place = entry.place;
-        if waits_at(x, place, n) {
-            k += 1;
-        }
-        i += 1;
-    }
-    k
+    how_many(&t.order, &t.processes, n) as u8
 }
 
-// The head of the ready line, or nobody: of the most urgent the one that came first.
-pub fn ready_head(t: Tables) -> u8
-    ensures { result ≡ first (ready_line t) }
+// How urgent the process with number x is: nobody 0, a process 1 more than its priority.
+fn urgency_of(processes: &[Process; 32], x: u8) -> u16
+    ensures { result ≡ urgency processes.now x }
 {
-    let order = t.order;
-    let processes = t.processes;
-    let mut head = 0;
+    if x == 0 {
+        return 0;
+    }
+    u16::from(numbered(processes, x, nobody()).priority) + 1
+}
+
+// The head of the ready line, if it has one: of the most urgent the one that came first.
+pub fn ready_head(t: Tables) -> Option<u8>
+    ensures { result ≡ somebody (first (ready_line t)) }
+{
+    let mut head = None;
     let mut urgency = 0;
-    let mut i = 0;
-    while i < 32 {
-        let x = order[i];
-        let entry = processes[entry_of(x)];
-        let place = entry.place;
-        if stands_in(x, place, Line::Ready) {
-            let its = entry.priority as u16 + 1;
+    for x in t.order {
+        if stands(&t.processes, x, Line::Ready) {
+            let its = urgency_of(&t.processes, x);
             if urgency < its {
-                head = x;
+                head = Some(x);
                 urgency = its;
             }
         }
-        i += 1;
     }
     head
 }

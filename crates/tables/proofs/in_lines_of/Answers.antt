@@ -1,38 +1,17 @@
-use mathlib.Core.Path.{◌≡◌, sym, ◌∙◌}
-use lib.ListN.{length}
-use borrow.Author.Rules.{rules}
-use native.Mathlib.Nat.{zero-add, add-zero}
-use native.Mathlib.Omega.{arith}
-use Rattle.tables.specs.Lines.{waits_at, in_lines_of}
-use Rattle.basics.specs.Lists.{len_map}
-use Rattle.tables.proofs.Laws.{waits_not, Left, turn, keep_end}
+-- `tables::in_lines_of` meets its contract: those who are counted are a view of the order. Assumes nothing.
+use Rattle.std.proofs.Common.{rules, ap, length, ◌≡◌, ◌∙◌, arith}
+use Rattle.std.proofs.lemmas.List.Sums.{length-filter, count_by-le-length}
+use Rattle.tables.specs.Lines.{in_lines_of, waiting_at}
+use Rattle.tables.proofs.Laws.{kept}
 use Rattle.tables.proofs.in_lines_of.Goals as goal
-use Rattle.tables.proofs.in_lines_of.Goals.{After-waits_at, then-waits_at, else-waits_at}
 
--- What is left of the lines, by the answer of `waits_at`
-left : (c : After-waits_at) →
+pub overflow_cast-result : goal.overflow_cast-result
+overflow_cast-result c =
     let a = c.args in
-    Left (waits_at a.n) a.t.processes a.t.order c.loop-i.i c.waits_at.result
-left c =
-    let a = c.args in
-    let processes : length a.t.processes ≡ 32 = search (len_map, rules) in
-    let order : length a.t.order ≡ 32 = search (len_map, rules) in
-    turn (waits_at a.n) a.t.processes a.t.order _ _ _ _ (waits_not a.n) processes (omega arith) c.entry_of.ensures c.waits_at.ensures
-
-pub loop-i-init : goal.loop-i-init
-unfolding in_lines_of
-loop-i-init c = (search rules, search rules, zero-add _)
-
-pub loop-i-preserved : goal.loop-i-preserved
-loop-i-preserved c =
-    let known = c.loop-i.invariant.2 in
-    elim c.if-waits_at.branch [
-      | then-waits_at w ↦ let one = rw (left (goal.at.loop-i-preserved c).After-waits_at, w.if-waits_at.true) at known in (search rules, omega arith, omega arith)
-      | else-waits_at w ↦ let none = rw (left (goal.at.loop-i-preserved c).After-waits_at, w.if-waits_at.false) at known in (search rules, omega arith, omega arith)
-    ]
+    let test = waiting_at a.n a.t.processes in
+    let long : length a.t.order ≡ 32 = search rules in
+    omega (arith, length-filter test a.t.order, count_by-le-length test a.t.order)
 
 pub returns : goal.returns
 unfolding in_lines_of
-returns c =
-    let order : length c.args.t.order ≡ 32 = search (len_map, rules) in
-    sym (add-zero _) ∙ (rw (keep_end _ c.args.t.order c.loop-i.i (omega arith)) at c.loop-i.invariant.2)
+returns c = c.how_many.ensures ∙ ap length (kept (waiting_at c.args.n c.args.t.processes) c.args.t.order)
