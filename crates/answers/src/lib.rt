@@ -32,13 +32,15 @@ pub struct Step {
 }
 
 // Document 01's number of an outcome.
-pub fn outcome_number(outcome: Outcome) -> u8
-    ensures { result ≡ outcome_number outcome }
-{
-    match outcome {
-        Outcome::Done => 0,
-        Outcome::No => 1,
-        Outcome::Waits => 2,
+impl From<Outcome> for u8 {
+    ghost from_gives = { λ outcome r. r ≡ outcome_number outcome };
+
+    fn from(outcome: Outcome) -> u8 {
+        match outcome {
+            Outcome::Done => 0,
+            Outcome::No => 1,
+            Outcome::Waits => 2,
+        }
     }
 }
 
@@ -47,10 +49,10 @@ pub fn with_numbers(outcome: Outcome, n: u8, l: u8, m: u32) -> Answer
     ensures { result ≡ answer outcome n l m (replicate 64 0) }
 {
     Answer {
-        outcome: outcome,
-        n: n,
-        l: l,
-        m: m,
+        outcome,
+        n,
+        l,
+        m,
         bytes: [0; 64],
     }
 }
@@ -59,6 +61,8 @@ pub fn with_numbers(outcome: Outcome, n: u8, l: u8, m: u32) -> Answer
 pub fn plainly(t: Tables, outcome: Outcome) -> Step
     ensures { result ≡ step t (plain outcome) }
 {
-    let answer = with_numbers(outcome, 0, 0, 0);
-    Step { tables: t, answer }
+    Step {
+        tables: t,
+        answer: with_numbers(outcome, 0, 0, 0),
+    }
 }

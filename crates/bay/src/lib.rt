@@ -1,5 +1,5 @@
 // The ring bays and the parcels: a ring takes bytes out of a parcel and gives bytes into one.
-#![tactic(auto)]
+#![tactic(auto, unfolding(crate::specs::Bay::zeros, crate::specs::Bay::empty_bay, crate::specs::Bay::empty_parcel, crate::specs::Bay::in_range, crate::specs::Bay::put_fits, crate::specs::Bay::get_fits, crate::specs::Round::going_round))]
 
 ghost use Rattle.std.specs.Prelude.{◌≡◌, []};
 ghost use Rattle.bay.specs.Round.{going_round};
@@ -34,7 +34,7 @@ pub fn empty_parcel() -> Parcel
     ensures { result ≡ empty_parcel }
 {
     Parcel {
-        bytes: [0u8; 64],
+        bytes: [0; 64],
         holds: None,
     }
 }
@@ -44,7 +44,7 @@ pub fn empty_bay() -> Ring
     ensures { result ≡ empty_bay }
 {
     Ring {
-        bytes: [0u8; 256],
+        bytes: [0; 256],
         start: 0,
         size: 0,
         held: 0,
@@ -56,10 +56,8 @@ pub fn ring_of_size(size: u16) -> Ring
     ensures { result ≡ ring_of 0 size [] }
 {
     Ring {
-        bytes: [0u8; 256],
-        start: 0,
         size,
-        held: 0,
+        ..empty_bay()
     }
 }
 
@@ -67,39 +65,25 @@ pub fn ring_of_size(size: u16) -> Ring
 pub fn in_range(start: u16, size: u16, held: u16) -> bool
     ensures { result ≡ in_range start size held }
 {
-    if size > 256 {
-        return false;
-    }
-    if start >= size {
-        return false;
-    }
-    held <= size
+    size <= 256 && start < size && held <= size
 }
 
 // Whether n bytes lie in a parcel from its byte `from` on, and find room in the ring.
-fn put_fits(start: u16, size: u16, held: u16, from: u8, n: u8) -> bool
-    ensures { result ≡ put_fits start size held from n }
+fn put_fits(ring: &Ring, from: u8, n: u8) -> bool
+    ensures { result ≡ put_fits ring.now.start ring.now.size ring.now.held from n }
 {
-    if from as usize + n as usize > 64 {
-        return false;
-    }
-    if held as usize + n as usize > size as usize {
-        return false;
-    }
-    in_range(start, size, held)
+    usize::from(from) + usize::from(n) <= 64
+        && usize::from(ring.held) + usize::from(n) <= usize::from(ring.size)
+        && in_range(ring.start, ring.size, ring.held)
 }
 
 // Whether n bytes are held, and find room in a parcel from its byte `at` on.
-fn get_fits(start: u16, size: u16, held: u16, at: u8, n: u8) -> bool
-    ensures { result ≡ get_fits start size held at n }
+fn get_fits(ring: &Ring, at: u8, n: u8) -> bool
+    ensures { result ≡ get_fits ring.now.start ring.now.size ring.now.held at n }
 {
-    if at as usize + n as usize > 64 {
-        return false;
-    }
-    if n as u16 > held {
-        return false;
-    }
-    in_range(start, size, held)
+    usize::from(at) + usize::from(n) <= 64
+        && u16::from(n) <= ring.held
+        && in_range(ring.start, ring.size, ring.held)
 }
 
 // Where the count k from the bay's first byte lies: it goes round at the size, once.
@@ -114,7 +98,7 @@ fn going_round(size: usize, k: usize) -> usize
 pub fn put(ring: Ring, parcel: Parcel, from: u8, n: u8) -> Ring
     ensures { result ≡ put_of ring parcel from n }
 {
-    if !put_fits(ring.start, ring.size, ring.held, from, n) {
+    if !put_fits(&ring, from, n) {
         return ring;
     }
     let start = ring.start as usize;
@@ -123,11 +107,8 @@ pub fn put(ring: Ring, parcel: Parcel, from: u8, n: u8) -> Ring
     let first = from as usize;
     let count = n as usize;
     let mut next = ring;
-    let mut i: usize = 0;
-    while i < count {
-        let at = going_round(size, start + (held + i));
-        next.bytes[at] = parcel.bytes[first + i];
-        i += 1;
+    for i in 0..count {
+        next.bytes[going_round(size, start + (held + i))] = parcel.bytes[first + i];
     }
     next.held = (held + count) as u16;
     next
@@ -138,7 +119,7 @@ pub fn put(ring: Ring, parcel: Parcel, from: u8, n: u8) -> Ring
 pub fn get(ring: Ring, parcel: Parcel, at: u8, n: u8) -> Moved
     ensures { result ≡ get_of ring parcel at n }
 {
-    if !get_fits(ring.start, ring.size, ring.held, at, n) {
+    if !get_fits(&ring, at, n) {
         return Moved { ring, parcel };
     }
     let start = ring.start as usize;
@@ -148,24 +129,20 @@ pub fn get(ring: Ring, parcel: Parcel, at: u8, n: u8) -> Moved
     let count = n as usize;
     let mut next = ring;
     let mut bytes = parcel.bytes;
-    let mut i: usize = 0;
-    while i < count {
+    for i in 0..count {
         let from = going_round(size, start + i);
         let byte = next.bytes[from];
         bytes[first + i] = byte;
         next.bytes[from] = 0;
-        i += 1;
     }
     next.start = going_round(size, start + count) as u16;
     next.held = (held - count) as u16;
-    let end = (first + count) as u8;
-    let filled = Parcel {
-        bytes,
-        holds: Some(end),
-    };
     Moved {
         ring: next,
-        parcel: filled,
+        parcel: Parcel {
+            bytes,
+            holds: Some((first + count) as u8),
+        },
     }
 }
 
@@ -179,11 +156,10 @@ pub fn reset(ring: Ring) -> Ring
     let start = ring.start as usize;
     let size = ring.size as usize;
     let held = ring.held as usize;
-    let behind = going_round(size, start + held) as u16;
     Ring {
-        bytes: [0u8; 256],
-        start: behind,
-        size: ring.size,
+        bytes: [0; 256],
+        start: going_round(size, start + held) as u16,
         held: 0,
+        ..ring
     }
 }

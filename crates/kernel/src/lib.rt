@@ -64,7 +64,7 @@ fn reply_of(said: Answer, running: u8) -> Record
     let outcome = said.outcome;
     let bytes = said.bytes;
     Record {
-        what: answers::outcome_number(outcome),
+        what: u8::from(outcome),
         who: running,
         n: said.n,
         l: said.l,

@@ -9,15 +9,15 @@ use Rattle.bay.proofs.reset.Goals as goal
 pub returns-then-not-in_range : goal.returns-then-not-in_range
 returns-then-not-in_range c = sym (reset_refused _ (sym c.in_range.ensures ∙ c.if-not-in_range.true))
 
-pub overflow_cast-behind : goal.overflow_cast-behind
-overflow_cast-behind c =
+pub overflow_cast-result : goal.overflow_cast-result
+overflow_cast-result c =
     let a = c.args in
     let n : Numbers a.ring.start a.ring.size a.ring.held =
     in_range_true _ _ _ (sym c.in_range.ensures ∙ c.if-not-in_range.false) in
-    omega (arith, round_within _ _ _ c.going_round-behind.ensures (omega arith))
+    omega (arith, round_within _ _ _ c.going_round.ensures (omega arith))
 
 pub returns : goal.returns
 unfolding thrown_away zeros
 returns c =
     let a = c.args in
-    rw c.going_round-behind.ensures (sym (reset_done a.ring (sym c.in_range.ensures ∙ c.if-not-in_range.false)))
+    rw c.going_round.ensures (sym (reset_done a.ring (sym c.in_range.ensures ∙ c.if-not-in_range.false)))

@@ -2,4 +2,4 @@
 use Rattle.kernel.proofs.reply_of.Goals as goal
 
 pub returns : goal.returns
-returns c = rw c.outcome_number.ensures
+returns c = rw c.from.ensures
