@@ -1,79 +1,62 @@
--- The loops of this crate: one that looks for a free number, one that looks for a priority, and two that change a list from its front on.
-use Prim.Native.Nat.{ℕ, zero, suc, ◌+◌, ◌%◌, ◌≤◌, ◌<◌}
-use mathlib.Core.Path.{◌≡◌, refl, ap, ◌∙◌}
-use mathlib.Core.Bool.{Bool, false, cond}
+-- The searches of this crate, in std's words and in the definitions'; and those who are due.
+use Prim.Native.Nat.{ℕ, suc, ◌+◌}
+use mathlib.Core.Path.{◌≡◌, refl, sym, ap, ◌∙◌}
+use mathlib.Core.Bool.{Bool, cond}
 use mathlib.Core.List.{List, [], ◌∷◌, map}
 use native.Mathlib.Omega.{arith}
-use native.Mathlib.Numerals.{add-one}
 use lib.Dec.{eqb}
-use lib.ListN.{length, get_or, set, drop}
-use lib.Seq.{drop-cons}
+use lib.ListN.{length}
+use borrow.Author.Tests.{eqb-true, ne_eqb, lt-ltb, le-ltb, ltb-true, ltb-false}
+use Rattle.std.specs.Prelude.{◌==◌}
+use Rattle.std.specs.List.{filter, list_any, position, position_or_len}
+use Rattle.std.proofs.Common.{Some, None, ltb}
+use Rattle.std.proofs.lemmas.Option.{cond_some, none-some}
 use Rattle.basics.specs.Tests.{test, holds, fails}
-use Rattle.arrivals.specs.Order.{keep}
+use Rattle.arrivals.specs.Order.{has, first, keep}
+use Rattle.tables.specs.Lines.{ready_line}
+use Rattle.tables.specs.Access.{with_process, replaced}
+use Rattle.tables.specs.declared.Place.{Place}
 use Rattle.tables.specs.declared.Tables.{Tables}
 use Rattle.tables.specs.declared.Process.{Process}
-use Rattle.tables.specs.declared.Place.TheVariants.{Nowhere}
-use Rattle.tables.specs.Lines.{is_number, urgency}
-use Rattle.tables.proofs.Laws.{seen}
-use Rattle.ready.specs.Ready.{released, released_all}
+use Rattle.tables.specs.Numbers.{somebody}
+use Rattle.ready.specs.Ready.{with_place, runner_joins, released, released_all, runs, dispatched_to, dispatched}
 use Rattle.ready.proofs.Laws.{nobody_released}
-use Rattle.processes.specs.Processes.{is_free, lowest_free, priority_of, is_due, due_of, or_nobody}
+use Rattle.processes.specs.Processes.{is_free, lowest_free, or_nobody, head_runs}
 
--- A turn of the search for a free number
-pub free_turn : (l : List Process) (i : ℕ) (b : Bool) (d : Process) → i < length l → b ≡ is_free (get_or l i d) → lowest_free (i + 1) (drop i l) ≡ cond b (i + 1) (lowest_free (i + 1 + 1) (drop (i + 1) l))
-free_turn l i b d h e = rw (add-one, add-one, drop-cons l i d, e)
+-- The lowest free number is one more than the place of the first free process
+from_place : (l : List Process) (n : ℕ) → lowest_free n l ≡ cond (ltb (position_or_len is_free l) (length l)) (n + position_or_len is_free l) 0
+from_place [] n = refl
+from_place (q ∷ l) n =
+    elim (test (is_free q)) [
+      | holds e ↦ rw (e, lt-ltb 0 (suc (length l)) (omega arith)) (omega arith)
+      | fails e ↦
+          let p = position_or_len is_free l in
+          rw (e, from_place l (suc n))
+          (elim (test (ltb p (length l))) [
+            | holds h ↦ rw (h, lt-ltb (1 + p) (suc (length l)) (omega (arith, ltb-true p (length l) h))) (omega arith)
+            | fails h ↦ rw (h, le-ltb (1 + p) (suc (length l)) (omega (arith, ltb-false p (length l) h)))
+          ])
+    ]
 
--- A process whose urgency is 1 more than a number has it as its priority
-pub priority_entry : (ps : List Process) (x n : ℕ) → urgency ps x ≡ n + 1 → priority_of ps x ≡ n
-unfolding urgency
-priority_entry ps x n h = elim (test (eqb x 0)) [ holds z ↦ absurd (omega (arith, rw z at h)) | fails z ↦ omega (arith, rw z at h) ]
+pub free_found : (l : List Process) (i : ℕ) → position is_free l ≡ Some i → Some (i + 1) ≡ somebody (lowest_free 1 l)
+free_found l i e =
+    let found = cond_some _ _ _ e in
+    rw (from_place l 1, found.0, found.1, ne_eqb (1 + i) 0 (omega arith)) (ap Some (omega arith))
 
--- ---- a list whose first i are changed by f
+pub none_free : (l : List Process) → position is_free l ≡ None → None ≡ somebody (lowest_free 1 l)
+none_free l e =
+    elim (test (ltb (position_or_len is_free l) (length l))) [
+      | holds h ↦ absurd (none-some (position_or_len is_free l) (sym e ∙ rw h))
+      | fails h ↦ rw (from_place l 1, h)
+    ]
 
-module _ {A : Type 0} (f : A → A) where
-  abbrev pub changed : ℕ → List A → List A
-  changed zero l = l
-  changed (suc i) [] = []
-  changed (suc i) (x ∷ l) = f x ∷ changed i l
-
-  -- The next one is as it was, and is changed
-  next_same : (i : ℕ) (l : List A) (d : A) → get_or (changed i l) i d ≡ get_or l i d
-  next_same zero l d = refl
-  next_same (suc i) [] d = refl
-  next_same (suc i) (x ∷ l) d = next_same i l d
-
-  next_set : (i : ℕ) (l : List A) (d : A) → i < length l → set (changed i l) i (f (get_or l i d)) ≡ changed (suc i) l
-  next_set i [] d h = absurd (omega arith)
-  next_set zero (x ∷ l) d h = refl
-  next_set (suc i) (x ∷ l) d h = ap (λ (r : List A). f x ∷ r) (next_set i l d (omega arith))
-
-  -- A turn of the loop that changes a list
-  pub turned : (l m : List A) (i : ℕ) (y d : A) → i < length l → m ≡ changed i l → y ≡ f (get_or m i d) → set m i y ≡ changed (i + 1) l
-  turned l m i y d h e g = rw (g, e, next_same i l d, add-one) (next_set i l d h)
-
-  -- At the end all are changed
-  pub all_changed : (i : ℕ) (l : List A) → length l ≤ i → changed i l ≡ map f l
-  all_changed i [] h = none i
-    where
-      none : (i : ℕ) → changed i [] ≡ []
-      none zero = refl
-      none (suc i) = refl
-  all_changed zero (x ∷ l) h = absurd (omega arith)
-  all_changed (suc i) (x ∷ l) h = ap (λ (r : List A). f x ∷ r) (all_changed i l (omega arith))
-
--- ---- those who are due
-
--- Nobody is due
-nobody_due : is_due Nowhere ≡ false
-unfolding is_due
-nobody_due = refl
-
--- What the code finds for x by its entry
-pub due_entry : (ps : List Process) (x k r : ℕ) (d : Process) → length ps ≡ 32 → k ≡ (x + 31) % 32 → r ≡ cond (is_number x) (cond (is_due (get_or ps k d).place) x 0) 0 → r ≡ or_nobody (due_of ps) x
-due_entry ps x k r d long e h =
-    elim (test (is_number x)) [
-      | holds g ↦ h ∙ rw (seen is_due ps x d nobody_due long, g, e)
-      | fails g ↦ h ∙ rw (seen is_due ps x d nobody_due long, g)
+-- Of those who pass, one has the number n under g
+pub any_has : (f : ℕ → Bool) (g : ℕ → ℕ) (n : ℕ) (l : List ℕ) → list_any (λ x. g x == n) (filter f l) ≡ has n (map g (keep f l))
+any_has f g n [] = refl
+any_has f g n (x ∷ l) =
+    elim (test (f x)) [
+      | holds e ↦ elim (test (eqb (g x) n)) [ holds q ↦ rw (e, q) | fails q ↦ rw (e, q) (any_has f g n l) ]
+      | fails e ↦ rw e (any_has f g n l)
     ]
 
 -- With nobody in place of the others, those who pass the test are released
@@ -84,4 +67,14 @@ those_released f (x ∷ l) t =
     elim (test (f x)) [
       | holds e ↦ rw e (those_released f l (released x t))
       | fails e ↦ rw (e, ← nobody_released 0 t refl) (those_released f l t)
+    ]
+
+-- The caller has joined the ready line and nobody runs: to dispatch is to let the head run
+pub head_runs_next : (place : Place) (t : Tables) → head_runs (runner_joins place t) ≡ dispatched (runner_joins place t)
+unfolding head_runs runner_joins dispatched dispatched_to runs with_place with_process replaced
+head_runs_next place t =
+    let u = runner_joins place t in
+    elim (test (eqb (first (ready_line u)) 0)) [
+      | holds e ↦ rw (e, eqb-true (first (ready_line u)) 0 e)
+      | fails e ↦ rw e
     ]

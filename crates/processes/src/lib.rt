@@ -2,11 +2,14 @@
 // Each says what a request does once it is accepted; where none could be, the tables stay as they are.
 #![tactic(auto)]
 
-ghost use Rattle.std.specs.Prelude.{◌-◌, ◌≡◌, cond, map};
+ghost use Rattle.std.specs.Prelude.{◌≡◌, ◌==◌, map, position, filter};
+ghost use Rattle.std.specs.List.{list_any};
 ghost use Rattle.answers.specs.Answers.{plain, step};
 ghost use Rattle.tables.specs.declared.Place.TheVariants.{Ready};
-ghost use Rattle.tables.specs.Access.{with_process};
-ghost use Rattle.tables.specs.Lines.{is_number};
+ghost use Rattle.tables.specs.declared.Line.TheVariants as lines;
+ghost use Rattle.tables.specs.Lines.{standing};
+ghost use Rattle.tables.specs.Numbers.{somebody};
+ghost use Rattle.tables.specs.Access.{nobody, numbered, with_process};
 ghost use Rattle.answers.specs.declared.Outcome.TheVariants.{Done};
 ghost use Rattle.ready.specs.Ready.{joins};
 ghost use Rattle.processes.specs.Processes.{
@@ -25,8 +28,8 @@ ghost use Rattle.processes.specs.Processes.{
   with_priority,
   prioritised_from,
   prioritised,
+  priority_of,
   ready_has,
-  head_runs,
   scheduled,
   stated,
   slept,
@@ -44,26 +47,33 @@ use answers::{Outcome, Step};
 use tables::{Line, Place, Process, Tables};
 
 // Is this number free?
+#[tactic(auto, unfolding(crate::specs::Processes::is_free))]
 fn is_free(process: Process) -> bool
     ensures { result ≡ is_free process }
 {
-    let place = process.place;
-    tables::code_of(place) == 0
+    matches!(process.place, Place::Nowhere)
 }
 
-// The lowest free number, or 0.
-pub fn free_process(processes: [Process; 32]) -> u8
-    ensures { result ≡ free_in processes }
+// The process with number p, or nobody.
+fn numbered(processes: &[Process; 32], p: u8) -> Process
+    ensures { result ≡ numbered processes.now p nobody }
 {
-    let mut i = 0;
-    while i < 32 {
-        let process = processes[i];
-        if is_free(process) {
-            return (i + 1) as u8;
-        }
-        i += 1;
-    }
-    0
+    tables::numbered(processes, p, tables::nobody())
+}
+
+// Where the first free process stands.
+fn first_free(processes: &[Process; 32]) -> Option<usize>
+    ensures { result ≡ position is_free processes.now }
+{
+    processes.iter().position(|process| is_free(*process))
+}
+
+// The lowest free number.
+pub fn free_process(processes: [Process; 32]) -> Option<u8>
+    ensures { result ≡ somebody (free_in processes) }
+{
+    let i = first_free(&processes)?;
+    Some(i as u8 + 1)
 }
 
 // A new process.
@@ -71,53 +81,48 @@ fn newcomer(priority: u8) -> Process
     ensures { result ≡ newcomer priority }
 {
     Process {
-        priority: priority,
+        priority,
         suspended: false,
         place: Place::Ready,
     }
 }
 
 // Create process: it takes the lowest free number and joins the ready line.
+#[tactic(auto, unfolding(crate::specs::Processes::created, crate::specs::Processes::created_as, crate::specs::Processes::free_process))]
 pub fn created(t: Tables, priority: u8) -> Step
     ensures { result ≡ created priority t }
 {
-    let processes = t.processes;
-    let p = free_process(processes);
-    if p == 0 {
+    let Some(p) = free_process(t.processes) else {
         return answers::plainly(t, Outcome::No);
-    }
+    };
     let mut next = tables::with_process(t, p, newcomer(priority));
-    let order = t.order;
-    let longer = arrivals::joined(order, p);
-    next.order = longer;
-    let answer = answers::with_numbers(Outcome::Done, p, 0, 0);
+    next.order = arrivals::joined(t.order, p);
     Step {
         tables: next,
-        answer: answer,
+        answer: answers::with_numbers(Outcome::Done, p, 0, 0),
     }
 }
 
 // Process p is nobody again, its parcel is empty, and the order lists it no more.
+#[tactic(auto, unfolding(crate::specs::Processes::gone))]
 fn gone(t: Tables, p: u8) -> Tables
     ensures { result ≡ gone p t }
 {
     let freed = tables::with_process(t, p, tables::nobody());
     let mut next = tables::with_parcel(freed, p, bay::empty_parcel());
-    let order = t.order;
-    let shorter = arrivals::deleted(order, p);
-    next.order = shorter;
+    next.order = arrivals::deleted(t.order, p);
     next
 }
 
 // Delete myself: the runner is gone, and nobody runs.
+#[tactic(auto, unfolding(crate::specs::Processes::deleted_myself))]
 pub fn deleted_myself(t: Tables) -> Step
     ensures { result ≡ deleted_myself t }
 {
-    let p = t.running;
-    if p == 0 {
+    if t.running == 0 {
         return answers::plainly(t, Outcome::No);
     }
-    let mut next = gone(t, p);
+    let mut next = gone(t, t.running);
     next.running = 0;
     answers::plainly(next, Outcome::Done)
 }
@@ -126,15 +131,14 @@ pub fn deleted_myself(t: Tables) -> Step
 fn marked(process: Process, suspended: bool) -> Process
     ensures { result ≡ marked suspended process }
 {
-    let place = process.place;
     Process {
-        priority: process.priority,
-        suspended: suspended,
-        place: place,
+        suspended,
+        ..process
     }
 }
 
 // Process p, marked, goes to the end of the parked line.
+#[tactic(auto, unfolding(crate::specs::Processes::parked))]
 fn parked(t: Tables, p: u8, process: Process) -> Tables
     ensures { result ≡ parked p process t }
 {
@@ -157,27 +161,27 @@ fn into_ready(t: Tables, p: u8, process: Process) -> Step
     answers::plainly(ready::joins(next, p, Place::Ready), Outcome::Done)
 }
 
-// Suspend, from this place: running or ready goes to the end of the parked line; waiting or asleep keeps its position.
-fn suspended_from(t: Tables, place: Place, p: u8, process: Process) -> Step
-    ensures { result ≡ suspended_from place p process t }
+// Suspend, from its place: running or ready goes to the end of the parked line; waiting or asleep keeps its position.
+#[tactic(auto, unfolding(crate::specs::Processes::suspended_from))]
+fn suspended_from(t: Tables, p: u8, process: Process) -> Step
+    ensures { result ≡ suspended_from process.place p process t }
 {
-    match place {
-        Place::Nowhere => answers::plainly(t, Outcome::No),
+    match process.place {
+        Place::Nowhere | Place::Parked => answers::plainly(t, Outcome::No),
         Place::Running => {
             let mut next = parked(t, p, process);
             next.running = 0;
             answers::plainly(next, Outcome::Done)
         }
         Place::Ready => answers::plainly(parked(t, p, process), Outcome::Done),
-        Place::Parked => answers::plainly(t, Outcome::No),
-        Place::Waiting(_) => in_place(t, p, marked(process, true)),
-        Place::Getting(_, _) => in_place(t, p, marked(process, true)),
-        Place::Putting(_, _) => in_place(t, p, marked(process, true)),
-        Place::Asleep(_) => in_place(t, p, marked(process, true)),
+        Place::Waiting(_) | Place::Getting(_, _) | Place::Putting(_, _) | Place::Asleep(_) => {
+            in_place(t, p, marked(process, true))
+        }
     }
 }
 
 // Suspend process p.
+#[tactic(auto, unfolding(crate::specs::Processes::suspended, crate::specs::Processes::suspended_of))]
 pub fn suspended(t: Tables, p: u8) -> Step
     ensures { result ≡ suspended p t }
 {
@@ -185,67 +189,59 @@ pub fn suspended(t: Tables, p: u8) -> Step
     if process.suspended {
         return answers::plainly(t, Outcome::No);
     }
-    let place = process.place;
-    suspended_from(t, place, p, process)
+    suspended_from(t, p, process)
 }
 
-// Resume, from this place: a parked one joins the ready line; waiting or asleep keeps its position.
-fn resumed_from(t: Tables, place: Place, p: u8, process: Process) -> Step
-    ensures { result ≡ resumed_from place p process t }
+// Resume, from its place: a parked one joins the ready line; waiting or asleep keeps its position.
+#[tactic(auto, unfolding(crate::specs::Processes::resumed_from))]
+fn resumed_from(t: Tables, p: u8, process: Process) -> Step
+    ensures { result ≡ resumed_from process.place p process t }
 {
-    match place {
-        Place::Nowhere => answers::plainly(t, Outcome::No),
-        Place::Running => answers::plainly(t, Outcome::No),
-        Place::Ready => answers::plainly(t, Outcome::No),
+    match process.place {
+        Place::Nowhere | Place::Running | Place::Ready => answers::plainly(t, Outcome::No),
         Place::Parked => into_ready(t, p, marked(process, false)),
-        Place::Waiting(_) => in_place(t, p, marked(process, false)),
-        Place::Getting(_, _) => in_place(t, p, marked(process, false)),
-        Place::Putting(_, _) => in_place(t, p, marked(process, false)),
-        Place::Asleep(_) => in_place(t, p, marked(process, false)),
+        Place::Waiting(_) | Place::Getting(_, _) | Place::Putting(_, _) | Place::Asleep(_) => {
+            in_place(t, p, marked(process, false))
+        }
     }
 }
 
 // Resume process p.
+#[tactic(auto, unfolding(crate::specs::Processes::resumed, crate::specs::Processes::resumed_of))]
 pub fn resumed(t: Tables, p: u8) -> Step
     ensures { result ≡ resumed p t }
 {
     let process = tables::process_at(t, p);
-    if process.suspended {
-        let place = process.place;
-        return resumed_from(t, place, p, process);
+    if !process.suspended {
+        return answers::plainly(t, Outcome::No);
     }
-    answers::plainly(t, Outcome::No)
+    resumed_from(t, p, process)
 }
 
 // The process with another priority.
 fn with_priority(process: Process, priority: u8) -> Process
     ensures { result ≡ with_priority priority process }
 {
-    let place = process.place;
     Process {
-        priority: priority,
-        suspended: process.suspended,
-        place: place,
+        priority,
+        ..process
     }
 }
 
-// Change priority, in this place: a ready process is moved behind its new equals; others only get the new number.
-fn prioritised_from(t: Tables, place: Place, p: u8, process: Process) -> Step
-    ensures { result ≡ prioritised_from place p process t }
+// Change priority, in its place: a ready process is moved behind its new equals; others only get the new number.
+#[tactic(auto, unfolding(crate::specs::Processes::prioritised_from))]
+fn prioritised_from(t: Tables, p: u8, process: Process) -> Step
+    ensures { result ≡ prioritised_from process.place p process t }
 {
-    match place {
+    match process.place {
         Place::Nowhere => answers::plainly(t, Outcome::No),
-        Place::Running => in_place(t, p, process),
         Place::Ready => into_ready(t, p, process),
-        Place::Parked => in_place(t, p, process),
-        Place::Waiting(_) => in_place(t, p, process),
-        Place::Getting(_, _) => in_place(t, p, process),
-        Place::Putting(_, _) => in_place(t, p, process),
-        Place::Asleep(_) => in_place(t, p, process),
+        _ => in_place(t, p, process),
     }
 }
 
 // Change the priority of process p; to the present value changes nothing.
+#[tactic(auto, unfolding(crate::specs::Processes::prioritised, crate::specs::Processes::prioritised_of))]
 pub fn prioritised(t: Tables, p: u8, priority: u8) -> Step
     ensures { result ≡ prioritised p priority t }
 {
@@ -256,55 +252,51 @@ pub fn prioritised(t: Tables, p: u8, priority: u8) -> Step
     if process.priority == priority {
         return answers::plainly(t, Outcome::Done);
     }
-    let place = process.place;
-    prioritised_from(t, place, p, with_priority(process, priority))
+    prioritised_from(t, p, with_priority(process, priority))
+}
+
+// The priority of process p, 0 of nobody.
+fn priority_of(processes: &[Process; 32], p: u8) -> u8
+    ensures { result ≡ priority_of processes.now p }
+{
+    numbered(processes, p).priority
+}
+
+// Has one of the order who is ready this priority?
+fn any_ready(order: &[u8; 32], processes: &[Process; 32], priority: u8) -> bool
+    ensures { result ≡ list_any (λ x. priority_of processes.now x == priority) (filter (standing lines.Ready processes.now) order.now) }
+{
+    order
+        .iter()
+        .filter(|x| tables::stands(processes, **x, Line::Ready))
+        .any(|x| priority_of(processes, *x) == priority)
 }
 
 // Has a ready process this priority?
 fn ready_has(t: Tables, priority: u8) -> bool
     ensures { result ≡ ready_has priority t }
 {
-    let order = t.order;
-    let processes = t.processes;
-    let mut i = 0;
-    while i < 32 {
-        let x = order[i];
-        let entry = processes[tables::entry_of(x)];
-        let place = entry.place;
-        if tables::stands_in(x, place, Line::Ready) {
-            if entry.priority == priority {
-                return true;
-            }
-        }
-        i += 1;
-    }
-    false
-}
-
-// The head of the ready line runs.
-fn head_runs(t: Tables) -> Tables
-    ensures { result ≡ head_runs t }
-{
-    ready::runs(t, tables::ready_head(t).unwrap_or(0))
+    any_ready(&t.order, &t.processes, priority)
 }
 
 // Schedule: if a ready process has the caller's priority, the caller goes behind its equals and the head runs.
+#[tactic(auto, using(crate::proofs::Laws::head_runs_next), unfolding(crate::specs::Processes::scheduled))]
 pub fn scheduled(t: Tables) -> Step
     ensures { result ≡ scheduled t }
 {
-    let running = t.running;
-    if running == 0 {
+    if t.running == 0 {
         return answers::plainly(t, Outcome::No);
     }
-    let caller = tables::process_at(t, running);
-    if ready_has(t, caller.priority) {
-        let behind = ready::runner_joins(t, Place::Ready);
-        return answers::plainly(head_runs(behind), Outcome::Done);
+    let caller = tables::process_at(t, t.running);
+    if !ready_has(t, caller.priority) {
+        return answers::plainly(t, Outcome::Done);
     }
-    answers::plainly(t, Outcome::Done)
+    let behind = ready::runner_joins(t, Place::Ready);
+    answers::plainly(ready::dispatched(behind), Outcome::Done)
 }
 
 // The state of process p: the structure waited at or 0, the priority, and the place code.
+#[tactic(auto, unfolding(crate::specs::Processes::stated, crate::specs::Processes::stated_of))]
 pub fn stated(t: Tables, p: u8) -> Step
     ensures { result ≡ stated p t }
 {
@@ -312,17 +304,16 @@ pub fn stated(t: Tables, p: u8) -> Step
     if is_free(process) {
         return answers::plainly(t, Outcome::No);
     }
-    let place = process.place;
-    let spot = tables::spot_of(place);
+    let spot = tables::spot_of(process.place);
     let code = tables::place_code(process) as u32;
-    let answer = answers::with_numbers(Outcome::Done, spot, process.priority, code);
     Step {
         tables: t,
-        answer: answer,
+        answer: answers::with_numbers(Outcome::Done, spot, process.priority, code),
     }
 }
 
 // Sleep: the caller joins the sleepers. Sleep 0 changes nothing.
+#[tactic(auto, unfolding(crate::specs::Processes::slept))]
 pub fn slept(t: Tables, milliseconds: u32) -> Step
     ensures { result ≡ slept milliseconds t }
 {
@@ -338,29 +329,13 @@ pub fn slept(t: Tables, milliseconds: u32) -> Step
     )
 }
 
-// What is left of m after k, no less than 0.
-fn rest(m: u32, k: u32) -> u32
-    ensures { result ≡ m - k }
-{
-    if m < k {
-        return 0;
-    }
-    m - k
-}
-
 // A place k milliseconds later: a sleeper's remainder falls by k, to no less than 0.
 fn fallen(place: Place, k: u32) -> Place
     ensures { result ≡ fallen k place }
 {
     match place {
-        Place::Nowhere => Place::Nowhere,
-        Place::Running => Place::Running,
-        Place::Ready => Place::Ready,
-        Place::Parked => Place::Parked,
-        Place::Waiting(n) => Place::Waiting(n),
-        Place::Getting(n, m) => Place::Getting(n, m),
-        Place::Putting(n, m) => Place::Putting(n, m),
-        Place::Asleep(m) => Place::Asleep(rest(m, k)),
+        Place::Asleep(m) => Place::Asleep(m.saturating_sub(k)),
+        _ => place,
     }
 }
 
@@ -368,54 +343,33 @@ fn fallen(place: Place, k: u32) -> Place
 fn later(process: Process, k: u32) -> Process
     ensures { result ≡ later k process }
 {
-    let place = process.place;
-    ready::placed(process, fallen(place, k))
+    ready::placed(process, fallen(process.place, k))
 }
 
 // Every sleeper's remainder falls by k.
-fn all_later(t: Tables, k: u32) -> Tables
+#[tactic(auto, unfolding(crate::specs::Processes::all_later))]
+fn all_later(mut t: Tables, k: u32) -> Tables
     ensures { result ≡ all_later k t }
 {
-    let mut processes = t.processes;
-    let mut i = 0;
-    while i < 32 {
-        let process = processes[i];
-        let after = later(process, k);
-        processes[i] = after;
-        i += 1;
+    for process in &mut t.processes {
+        *process = later(*process, k);
     }
-    let mut next = t;
-    next.processes = processes;
-    next
+    t
 }
 
 // Is this a sleeper whose remainder is 0?
+#[tactic(auto, unfolding(crate::specs::Processes::is_due))]
 fn is_due(place: Place) -> bool
     ensures { result ≡ is_due place }
 {
-    match place {
-        Place::Nowhere => false,
-        Place::Running => false,
-        Place::Ready => false,
-        Place::Parked => false,
-        Place::Waiting(_) => false,
-        Place::Getting(_, _) => false,
-        Place::Putting(_, _) => false,
-        Place::Asleep(m) => m == 0,
-    }
+    matches!(place, Place::Asleep(0))
 }
 
-// x, whose entry has this place, if it is due; else nobody.
-fn if_due(x: u8, place: Place) -> u8
-    ensures { result ≡ cond (is_number x) (cond (is_due place) x 0) 0 }
+// x if it is due, else nobody.
+fn if_due(processes: &[Process; 32], x: u8) -> u8
+    ensures { result ≡ or_nobody (due_of processes.now) x }
 {
-    if x == 0 {
-        return 0;
-    }
-    if 32 < x {
-        return 0;
-    }
-    if is_due(place) {
+    if is_due(numbered(processes, x).place) {
         return x;
     }
     0
@@ -426,14 +380,8 @@ fn due_in(t: Tables) -> [u8; 32]
     ensures { result ≡ map (or_nobody (due_of t.processes)) t.order }
 {
     let mut members = t.order;
-    let processes = t.processes;
-    let mut i = 0;
-    while i < 32 {
-        let x = members[i];
-        let entry = processes[tables::entry_of(x)];
-        let place = entry.place;
-        members[i] = if_due(x, place);
-        i += 1;
+    for x in &mut members {
+        *x = if_due(&t.processes, *x);
     }
     members
 }
@@ -446,6 +394,7 @@ fn due_released(t: Tables) -> Tables
 }
 
 // k milliseconds pass: every sleeper's remainder falls, and those at 0 are released. A tick is k = 1.
+#[tactic(auto, unfolding(crate::specs::Processes::ticked))]
 pub fn ticked(t: Tables, k: u32) -> Step
     ensures { result ≡ ticked k t }
 {

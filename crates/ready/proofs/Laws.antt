@@ -1,25 +1,42 @@
--- The loop that releases: what is left to release, one step on and at the end. Dispatch: who goes, and what is then done.
-use Prim.Native.Nat.{ℕ, ◌+◌, ◌-◌, ◌%◌, ◌≤◌, ◌<◌}
-use mathlib.Core.Path.{◌≡◌, sym, ap, ◌∙◌}
-use mathlib.Core.Bool.{Bool, true, false, cond, true≢false}
+-- A process in another place, releases one after the other, and what a dispatch does.
+use Prim.Native.Nat.{ℕ, ◌+◌, ◌-◌, ◌≤◌, ◌<◌}
+use mathlib.Core.Path.{◌≡◌, sym, ◌∙◌}
+use mathlib.Core.Bool.{cond}
 use mathlib.Core.List.{List}
 use native.Mathlib.Omega.{arith}
 use native.Mathlib.Numerals.{add-one}
-use lib.Dec.{eqb, leb, ltb}
+use lib.Dec.{eqb, leb}
 use lib.ListN.{length, get_or, set, drop, drop_of_length-le}
 use lib.Seq.{drop-cons}
-use borrow.Author.Tests.{eq-eqb, ne_eqb, le-leb, lt-leb, eqb-true, eqb-false, leb-true, leb-false, ltb-true, ltb-false}
+use borrow.Author.Tests.{eq-eqb, ne_eqb, le-ltb, lt-leb, lt-ltb, eqb-true, eqb-false, leb-false, ltb-true}
+use Rattle.std.proofs.Common.{Some, None}
+use Rattle.std.proofs.lemmas.Option.{cond_some, none-some, same_Some}
 use Rattle.basics.specs.Tests.{test, holds, fails}
-use Rattle.arrivals.specs.Order.{first, moved_last}
 use Rattle.tables.specs.declared.Tables.{Tables}
 use Rattle.tables.specs.declared.Process.{Process}
 use Rattle.tables.specs.declared.Place.{Place}
-use Rattle.tables.specs.declared.Place.TheVariants.{Running, Ready}
-use Rattle.tables.specs.Access.{numbered, nobody, with_running, with_order, with_processes, with_process, process_of}
-use Rattle.tables.specs.Lines.{ready_line}
-use Rattle.tables.specs.Laws.{numbered_at, numbered_past, replaced_at, replaced_past}
-use Rattle.ready.specs.Ready.{placed, with_place, joins, runner_joins, released_to, released, released_all, runs, goes, dispatched_to, dispatched}
-use Rattle.ready.specs.Laws.{head_known, only_joins}
+use Rattle.tables.specs.declared.Place.TheVariants.{Ready}
+use Rattle.tables.specs.Numbers.{somebody}
+use Rattle.tables.specs.Access.{numbered, replaced, nobody, with_process, process_of}
+use Rattle.tables.specs.Laws.{numbered_at, numbered_past, replaced_at, replaced_zero, replaced_past}
+use Rattle.ready.specs.Ready.{placed, with_place, joins, runner_joins, released, released_all, runs, goes, ahead_of_runner, dispatched_to}
+
+-- ---- a process in another place
+
+module _ (l : List Process) (p : ℕ) (place : Place) where
+  -- One of the table
+  pub put_at : (d : Process) → (p ≡ 0 → ⊥) → p ≤ length l → set l (p - 1) (placed (get_or l (p - 1) d) place) ≡ replaced l p (placed (numbered l p nobody) place)
+  put_at d some h = rw (numbered_at l p nobody d some h, replaced_at l p (placed (get_or l (p - 1) d) place) some)
+
+  -- Nobody, and a number past the table
+  pub put_out : ((p ≡ 0 → ⊥) → length l < p) → l ≡ replaced l p (placed (numbered l p nobody) place)
+  put_out past =
+      elim (test (eqb p 0)) [
+        | holds z ↦ rw (replaced_zero l p (placed (numbered l p nobody) place) (eqb-true p 0 z))
+        | fails z ↦ rw (replaced_past l p (placed (numbered l p nobody) place) (past (eqb-false p 0 z)))
+      ]
+
+-- ---- releases
 
 pub one_more : (l : List ℕ) (i : ℕ) (t u : Tables) → i < length l → u ≡ released (get_or l i 0) t → released_all (drop (i + 1) l) u ≡ released_all (drop i l) t
 unfolding released_all
@@ -29,13 +46,7 @@ pub no_more : (l : List ℕ) (i : ℕ) (t : Tables) → length l ≤ i → relea
 unfolding released_all
 no_more l i t h = rw (drop_of_length-le l {i = i} h)
 
--- ---- joining and release on the order and the processes alone, by the number p that joins
-
--- The tables with this order and these processes
-abbrev pub seated : Tables → List ℕ → List Process → Tables
-seated t order processes = with_processes (with_order t order) processes
-
--- Nobody joins no line
+-- Nobody joins no line, and is released into none
 pub nobody_joins : (p : ℕ) (place : Place) (t : Tables) → p ≡ 0 → t ≡ joins p place t
 unfolding joins
 nobody_joins p place t e = rw (eq-eqb p 0 e)
@@ -44,116 +55,57 @@ pub nobody_released : (p : ℕ) (t : Tables) → p ≡ 0 → t ≡ released p t
 unfolding released
 nobody_released p t e = nobody_joins p _ t e
 
-module _ (t : Tables) (order moved : List ℕ) (processes : List Process) (p : ℕ) (some : p ≡ 0 → ⊥) (last : moved ≡ moved_last p order) where
-  -- A process of the table joins a line, or is released
-  pub one_joins : (place : Place) (q d : Process) → p ≤ length processes → q ≡ placed (get_or processes (p - 1) d) place
-      → seated t moved (set processes (p - 1) q) ≡ joins p place (seated t order processes)
-  unfolding joins with_place with_process process_of
-  one_joins place q d h e = rw (ne_eqb p 0 some, numbered_at processes p nobody d some h, replaced_at processes p (placed (get_or processes (p - 1) d) place) some, last, e)
+-- ---- dispatch
 
-  pub one_released : (q d : Process) → p ≤ length processes → q ≡ placed (get_or processes (p - 1) d) (released_to (get_or processes (p - 1) d).suspended)
-      → seated t moved (set processes (p - 1) q) ≡ released p (seated t order processes)
-  unfolding released process_of
-  one_released q d h e = rw (numbered_at processes p nobody d some h) (one_joins _ q d h e)
+-- Past the table the priority is nobody's, 0
+pub runners_priority : (t : Tables) (p : ℕ) → length t.processes ≡ 32 → cond (leb p 32) (process_of t p).priority 0 ≡ (process_of t p).priority
+unfolding process_of
+runners_priority t p long =
+    elim (test (leb p 32)) [
+      | holds b ↦ rw b
+      | fails b ↦ rw (b, numbered_past t.processes p nobody (omega (arith, leb-false p 32 b)))
+    ]
 
-  -- A number past the table only moves
-  pub past_joins : (place : Place) → length processes < p → seated t moved processes ≡ joins p place (seated t order processes)
-  unfolding joins with_place with_process
-  past_joins place h = rw (ne_eqb p 0 some, replaced_past processes p _ h, last)
+-- A head that is no more urgent than the runner does not go
+pub stays_behind : (h head : ℕ) (t : Tables) → length t.processes ≡ 32 → somebody h ≡ Some head → (t.running ≡ 0 → ⊥)
+    → (process_of t head).priority ≤ (process_of t t.running).priority → None ≡ ahead_of_runner h t
+unfolding goes
+stays_behind h head t long e some less =
+    elim (test (eqb h 0)) [
+      | holds a ↦ absurd (none-some _ (rw a at e))
+      | fails a ↦
+          let same = same_Some h _ (rw a at e) in
+          rw (a, ne_eqb t.running 0 some, runners_priority t t.running long, same, le-ltb _ _ less)
+    ]
 
-  pub past_released : length processes < p → seated t moved processes ≡ released p (seated t order processes)
-  unfolding released
-  past_released h = past_joins _ h
+-- The head that goes runs, and the runner has joined the ready line; nobody joins none
+pub head_goes : (h head : ℕ) (t : Tables) → ahead_of_runner head t ≡ Some h → length t.processes ≡ 32 → runs h (joins t.running Ready t) ≡ dispatched_to head t
+unfolding goes dispatched_to runs runner_joins with_place with_process process_of
+head_goes h head t e long =
+    elim (test (eqb head 0)) [
+      | holds a ↦ absurd (none-some h (sym (rw a) ∙ e))
+      | fails a ↦
+          elim (test (eqb t.running 0)) [
+            | holds b ↦ rw (a, b, ← nobody_joins t.running Ready t (eqb-true t.running 0 b), ← same_Some _ _ (rw (a, b) at e))
+            | fails b ↦
+                let went = cond_some _ _ _ (rw (a, b, runners_priority t t.running long) at e) in
+                rw (a, b, lt-leb _ _ (ltb-true _ _ went.0), went.1)
+          ]
+    ]
 
--- ---- dispatch: who goes, by the entries at i and k that the code reads for the head and the runner
-
-module _ (t : Tables) (head i k : ℕ) (d e : Process) (long : length t.processes ≡ 32) (is : head ≡ first (ready_line t)) (its : i ≡ (head + 31) % 32) (his : k ≡ (t.running + 31) % 32) where
-  abbrev ahead : Bool
-  ahead = goes head t.running (get_or t.processes i d).priority (get_or t.processes k e).priority
-
-  known : head ≤ 32
-  known = omega (arith, head_known t, is)
-
-  -- The head is a process of the table
-  newcomer : (head ≡ 0 → ⊥) → process_of t head ≡ get_or t.processes i d
-  unfolding process_of
-  newcomer z =
-      let j : i ≡ head - 1 = omega (arith, known) in
-      rw j (numbered_at t.processes head nobody d z (omega (arith, known)))
-
-  -- The runner's priority; nobody's is 0
-  runner : (t.running ≡ 0 → ⊥) → cond (leb t.running 32) (get_or t.processes k e).priority 0 ≡ (process_of t t.running).priority
-  unfolding process_of
-  runner z =
-      elim (test (leb t.running 32)) [
-        | holds b ↦
-            let j : k ≡ t.running - 1 = omega (arith, leb-true t.running 32 b) in
-            rw (b, j, numbered_at t.processes t.running nobody e z (omega (arith, leb-true t.running 32 b)))
-        | fails b ↦ rw (b, numbered_past t.processes t.running nobody (omega (arith, leb-false t.running 32 b)))
-      ]
-
-  -- What the code asks is what the definition asks
-  told : ahead ≡ cond (eqb head 0) false (cond (eqb t.running 0) true (ltb (process_of t t.running).priority (process_of t head).priority))
-  unfolding goes
-  told =
-      elim (test (eqb head 0)) [
-        | holds a ↦ rw a
-        | fails a ↦
-            elim (test (eqb t.running 0)) [
-              | holds b ↦ rw (a, b)
-              | fails b ↦ rw (a, b, runner (eqb-false t.running 0 b), newcomer (eqb-false head 0 a))
-            ]
-      ]
-
-  -- Nobody goes: all stays as it was
-  pub stays : ahead ≡ false → t ≡ dispatched t
-  unfolding dispatched dispatched_to
-  stays h =
-      elim (test (eqb head 0)) [
-        | holds a ↦ rw (← is, a)
-        | fails a ↦
-            elim (test (eqb t.running 0)) [
-              | holds b ↦ absurd (true≢false (rw (told, a, b) at h))
-              | fails b ↦ rw (← is, a, b, le-leb (process_of t head).priority (process_of t t.running).priority (ltb-false _ _ (rw (told, a, b) at h)))
-            ]
-      ]
-
-  -- The head goes: it is another than the runner, who has joined the ready line
-  record Goes : Type 0 where
-    some : head ≡ 0 → ⊥
-    other : head ≡ t.running → ⊥
-    done : dispatched t ≡ runs head (runner_joins Ready t)
-
-  went : ahead ≡ true → Goes
-  unfolding dispatched dispatched_to runner_joins
-  went h =
-      elim (test (eqb head 0)) [
-        | holds a ↦ absurd (true≢false (sym (rw (told, a) at h)))
-        | fails a ↦
-            elim (test (eqb t.running 0)) [
-              | holds b ↦
-                  record {
-                    some = eqb-false head 0 a;
-                    other = λ s. eqb-false head 0 a (s ∙ eqb-true t.running 0 b);
-                    done = rw (← is, a, b, ← nobody_joins t.running Ready t (eqb-true t.running 0 b)) (ap (λ p. runs head (with_running t p)) (eqb-true t.running 0 b));
-                  }
-              | fails b ↦
-                  let more : (process_of t t.running).priority < (process_of t head).priority = ltb-true _ _ (rw (told, a, b) at h) in
-                  record {
-                    some = eqb-false head 0 a;
-                    other = λ s. omega (arith, more, ap (λ p. (process_of t p).priority) s);
-                    done = rw (← is, a, b, lt-leb (process_of t head).priority (process_of t t.running).priority more);
-                  }
-            ]
-      ]
-
-  -- So it runs
-  pub ran : (order : List ℕ) (processes : List Process) (up : Process) → seated t order processes ≡ joins t.running Ready t → ahead ≡ true → up ≡ placed (get_or t.processes i d) Running
-      → with_running (seated t order (set processes i up)) head ≡ dispatched t
-  unfolding runs runner_joins with_place with_process process_of
-  ran order processes up way h e =
-      let go = went h in
-      let j : i ≡ head - 1 = omega (arith, known, go.some) in
-      let same : numbered processes head nobody ≡ get_or t.processes i d =
-      ap (λ u. process_of u head) way ∙ (only_joins t.running 0 Ready t).places head go.other go.some ∙ newcomer go.some in
-      rw (go.done, ← way, same, replaced_at processes head (placed (get_or t.processes i d) Running) go.some, e, j)
+-- Where none goes all stays
+pub none_goes : (head : ℕ) (t : Tables) → ahead_of_runner head t ≡ None → length t.processes ≡ 32 → t ≡ dispatched_to head t
+unfolding goes dispatched_to
+none_goes head t e long =
+    elim (test (eqb head 0)) [
+      | holds a ↦ rw a
+      | fails a ↦
+          elim (test (eqb t.running 0)) [
+            | holds b ↦ absurd (none-some head (sym e ∙ rw (a, b)))
+            | fails b ↦
+                elim (test (leb (process_of t head).priority (process_of t t.running).priority)) [
+                  | holds k ↦ rw (a, b, k)
+                  | fails k ↦ absurd (none-some head (sym e ∙ rw (a, b, runners_priority t t.running long, lt-ltb _ _ (leb-false _ _ k))))
+                ]
+          ]
+    ]

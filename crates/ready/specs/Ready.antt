@@ -1,5 +1,5 @@
 -- The ready line, and what released means.
-use Rattle.std.specs.Prelude.{ℕ, Bool, true, false, cond, List, [], ◌∷◌, eqb, leb, ltb}
+use Rattle.std.specs.Prelude.{ℕ, Bool, true, false, cond, Option, Some, None, List, [], ◌∷◌, eqb, leb, ltb}
 use Rattle.arrivals.specs.Order.{moved_last, first}
 use Rattle.tables.specs.declared.Tables.{Tables}
 use Rattle.tables.specs.declared.Process.{Process}
@@ -59,3 +59,7 @@ dispatched t = dispatched_to (first (ready_line t)) t
 -- Does the head of these priorities go before the runner? A number above 32 counts as priority 0
 unfoldable pub goes : ℕ → ℕ → ℕ → ℕ → Bool
 goes head running newcomer runner = cond (eqb head 0) false (cond (eqb running 0) true (ltb (cond (leb running 32) runner 0) newcomer))
+
+-- The head of the ready line, if it goes before the runner
+abbrev pub ahead_of_runner : ℕ → Tables → Option ℕ
+ahead_of_runner head t = cond (goes head t.running (process_of t head).priority (process_of t t.running).priority) (Some head) None

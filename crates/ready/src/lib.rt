@@ -2,16 +2,18 @@
 #![tactic(auto)]
 
 ghost use Rattle.std.specs.Prelude.{◌≡◌};
+ghost use Rattle.arrivals.specs.Order.{first};
+ghost use Rattle.tables.specs.Access.{nobody, numbered, replaced};
+ghost use Rattle.tables.specs.Lines.{ready_line};
 ghost use Rattle.ready.specs.Ready.{
   placed,
-  with_place,
   joins,
   runner_joins,
   released_to,
   released,
   released_all,
   runs,
-  goes,
+  ahead_of_runner,
   dispatched,
 };
 
@@ -21,42 +23,55 @@ use tables::{Place, Process, Tables};
 pub fn placed(process: Process, place: Place) -> Process
     ensures { result ≡ placed process place }
 {
-    Process {
-        priority: process.priority,
-        suspended: process.suspended,
-        place: place,
-    }
+    Process { place, ..process }
 }
 
-// The tables with process p in another place; its position in the order stays.
-fn with_place(t: Tables, p: u8, place: Place) -> Tables
-    ensures { result ≡ with_place t p place }
+// Process p of the table goes to another place; nobody, and a number past the table, changes nothing.
+fn put(table: &mut [Process], p: u8, place: Place)
+    ensures { table.new ≡ replaced table.old p (placed (numbered table.old p nobody) place) }
 {
-    let process = tables::process_at(t, p);
-    tables::with_process(t, p, placed(process, place))
+    if 0 < p && p as usize <= table.len() {
+        table[p as usize - 1].place = place;
+    }
 }
 
 // Process p joins a line: it takes the line's place and is the last to have arrived. Nobody joins no line.
-pub fn joins(t: Tables, p: u8, place: Place) -> Tables
+#[tactic(auto, unfolding(crate::specs::Ready::joins, crate::specs::Ready::with_place, tables::specs::Access::with_process, tables::specs::Access::process_of))]
+fn join(t: &mut Tables, p: u8, place: Place)
+    ensures { t.new ≡ joins p place t.old }
+{
+    if p != 0 {
+        put(&mut t.processes, p, place);
+        t.order = arrivals::moved_last(t.order, p);
+    }
+}
+
+// Process p runs.
+#[tactic(auto, unfolding(crate::specs::Ready::runs, crate::specs::Ready::with_place, tables::specs::Access::with_process, tables::specs::Access::process_of))]
+fn run(t: &mut Tables, p: u8)
+    ensures { t.new ≡ runs p t.old }
+{
+    put(&mut t.processes, p, Place::Running);
+    t.running = p;
+}
+
+// The tables after process p joined a line.
+pub fn joins(mut t: Tables, p: u8, place: Place) -> Tables
     ensures { result ≡ joins p place t }
 {
-    if p == 0 {
-        return t;
-    }
-    let mut next = with_place(t, p, place);
-    let order = t.order;
-    let moved = arrivals::moved_last(order, p);
-    next.order = moved;
-    next
+    join(&mut t, p, place);
+    t
 }
 
 // The runner joins a line, and nobody runs.
-pub fn runner_joins(t: Tables, place: Place) -> Tables
+#[tactic(auto, unfolding(crate::specs::Ready::runner_joins))]
+pub fn runner_joins(mut t: Tables, place: Place) -> Tables
     ensures { result ≡ runner_joins place t }
 {
-    let mut next = joins(t, t.running, place);
-    next.running = 0;
-    next
+    let runner = t.running;
+    join(&mut t, runner, place);
+    t.running = 0;
+    t
 }
 
 // Where a process goes that is released: to the ready line, or to the parked line if suspended.
@@ -78,94 +93,66 @@ pub fn released_process(process: Process) -> Process
 }
 
 // Process p is released.
-pub fn released(t: Tables, p: u8) -> Tables
+#[tactic(auto, unfolding(crate::specs::Ready::released, tables::specs::Access::process_of))]
+fn release(t: &mut Tables, p: u8)
+    ensures { t.new ≡ released p t.old }
+{
+    let process = tables::numbered(&t.processes, p, tables::nobody());
+    join(t, p, released_to(process.suspended));
+}
+
+// The tables after process p was released.
+pub fn released(mut t: Tables, p: u8) -> Tables
     ensures { result ≡ released p t }
 {
-    let process = tables::process_at(t, p);
-    joins(t, p, released_to(process.suspended))
+    release(&mut t, p);
+    t
 }
 
 // These processes are released, one after the other.
-pub fn released_all(t: Tables, members: [u8; 32]) -> Tables
+pub fn released_all(mut t: Tables, members: [u8; 32]) -> Tables
     ensures { result ≡ released_all members t }
 {
-    let mut order = t.order;
-    let mut processes = t.processes;
-    let mut i = 0;
-    while i < 32 {
-        let p = members[i];
-        if p != 0 {
-            let moved = arrivals::moved_last(order, p);
-            order = moved;
-            if p <= 32 {
-                let k = (p - 1) as usize;
-                let process = processes[k];
-                let after = released_process(process);
-                processes[k] = after;
-            }
-        }
-        i += 1;
+    for p in members {
+        release(&mut t, p);
     }
-    let mut next = t;
-    next.order = order;
-    next.processes = processes;
-    next
+    t
 }
 
-// Process p runs.
-pub fn runs(t: Tables, p: u8) -> Tables
+// The tables after process p runs.
+pub fn runs(mut t: Tables, p: u8) -> Tables
     ensures { result ≡ runs p t }
 {
-    let mut next = with_place(t, p, Place::Running);
-    next.running = p;
-    next
+    run(&mut t, p);
+    t
 }
 
-// Does the head of the ready line go before the runner? These are their priorities; a number above 32 counts as priority 0.
-fn goes(head: u8, running: u8, newcomer: u8, runner: u8) -> bool
-    ensures { result ≡ goes head running newcomer runner }
+// The head of the ready line, if it goes before the runner: nobody runs, or the head is strictly more urgent.
+#[tactic(auto, unfolding(crate::specs::Ready::goes))]
+fn newcomer(t: Tables) -> Option<u8>
+    ensures { result ≡ ahead_of_runner (first (ready_line t)) t }
 {
-    if head == 0 {
-        return false;
+    let head = tables::ready_head(t)?;
+    if t.running == 0 {
+        return Some(head);
     }
-    if running == 0 {
-        return true;
+    let runner = tables::process_at(t, t.running);
+    let newcomer = tables::process_at(t, head);
+    if newcomer.priority <= runner.priority {
+        return None;
     }
-    if 32 < running {
-        return 0 < newcomer;
-    }
-    runner < newcomer
+    Some(head)
 }
 
 // Once at the end of every accepted call: nobody runs and a head is there: it runs; the head is strictly more urgent than
 // the runner: the runner goes to the ready line behind its equals and the head runs.
-pub fn dispatched(t: Tables) -> Tables
+pub fn dispatched(mut t: Tables) -> Tables
     ensures { result ≡ dispatched t }
 {
-    let head = tables::ready_head(t).unwrap_or(0);
-    let mut running = t.running;
-    let mut order = t.order;
-    let mut processes = t.processes;
-    let i = tables::entry_of(head);
-    let newcomer = processes[i];
-    let k = tables::entry_of(running);
-    let runner = processes[k];
-    if goes(head, running, newcomer.priority, runner.priority) {
-        if running != 0 {
-            let moved = arrivals::moved_last(order, running);
-            order = moved;
-            if running <= 32 {
-                let back = placed(runner, Place::Ready);
-                processes[k] = back;
-            }
-        }
-        let up = placed(newcomer, Place::Running);
-        processes[i] = up;
-        running = head;
+    if let Some(head) = newcomer(t) {
+        let runner = t.running;
+        join(&mut t, runner, Place::Ready);
+        run(&mut t, head);
     }
-    let mut next = t;
-    next.running = running;
-    next.order = order;
-    next.processes = processes;
-    next
+    t
 }

@@ -1,5 +1,5 @@
 -- Semaphores: wait and signal, their conditional forms, and signal all. Lines are in order of arrival.
-use Rattle.std.specs.Prelude.{ℕ, ◌+◌, ◌-◌, Bool, cond, not, List, eqb, ltb, length, replicate}
+use Rattle.std.specs.Prelude.{ℕ, ◌+◌, ◌-◌, Bool, cond, not, Option, Some, None, List, eqb, ltb, length, replicate}
 use Rattle.arrivals.specs.Order.{first}
 use Rattle.tables.specs.declared.Tables.{Tables}
 use Rattle.tables.specs.declared.Kind.{Kind}
@@ -20,6 +20,10 @@ kind_of n t = (structure_of t n).kind
 
 unfoldable pub with_kind : ℕ → Kind → Tables → Tables
 with_kind n kind t = with_structure t n (record { kind = kind })
+
+-- What is a semaphore
+abbrev pub semaphore_of : Kind → Option Kind
+semaphore_of kind = cond (is_semaphore kind) (Some kind) None
 
 -- A semaphore's value
 abbrev pub value : Kind → ℕ

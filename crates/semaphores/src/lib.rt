@@ -6,6 +6,7 @@ ghost use Rattle.arrivals.specs.Order.{keep};
 ghost use Rattle.answers.specs.Answers.{plain, step};
 ghost use Rattle.semaphores.specs.Semaphores.{
   kind_of,
+  semaphore_of,
   with_kind,
   value,
   lowered,
@@ -25,18 +26,27 @@ use answers::{Outcome, Step};
 use tables::{Kind, Line, Place, Structure, Tables};
 
 // What structure n is.
+#[tactic(auto, unfolding(crate::specs::Semaphores::kind_of))]
 fn kind_of(t: Tables, n: u8) -> Kind
     ensures { result ≡ kind_of n t }
 {
-    let structure = tables::structure_at(t, n);
-    structure.kind
+    tables::structure_at(t, n).kind
+}
+
+// What structure n is, if it is a semaphore.
+fn semaphore_at(t: Tables, n: u8) -> Option<Kind>
+    ensures { result ≡ semaphore_of (kind_of n t) }
+{
+    let kind = kind_of(t, n);
+    tables::is_semaphore(kind).then_some(kind)
 }
 
 // The tables with structure n another.
+#[tactic(auto, unfolding(crate::specs::Semaphores::with_kind))]
 fn with_kind(t: Tables, n: u8, kind: Kind) -> Tables
     ensures { result ≡ with_kind n kind t }
 {
-    tables::with_structure(t, n, Structure { kind: kind })
+    tables::with_structure(t, n, Structure { kind })
 }
 
 // A semaphore's value.
@@ -44,10 +54,9 @@ fn value_of(kind: Kind) -> u16
     ensures { result ≡ value kind }
 {
     match kind {
-        Kind::Free => 0,
         Kind::Binary(v) => v as u16,
         Kind::Counting(v) => v,
-        Kind::Ring(_) => 0,
+        Kind::Free | Kind::Ring(_) => 0,
     }
 }
 
@@ -56,20 +65,9 @@ fn lowered(kind: Kind) -> Kind
     ensures { result ≡ lowered kind }
 {
     match kind {
-        Kind::Free => Kind::Free,
-        Kind::Binary(v) => {
-            if v == 0 {
-                return Kind::Binary(0);
-            }
-            Kind::Binary(v - 1)
-        }
-        Kind::Counting(v) => {
-            if v == 0 {
-                return Kind::Counting(0);
-            }
-            Kind::Counting(v - 1)
-        }
-        Kind::Ring(b) => Kind::Ring(b),
+        Kind::Binary(v) => Kind::Binary(v.saturating_sub(1)),
+        Kind::Counting(v) => Kind::Counting(v.saturating_sub(1)),
+        Kind::Free | Kind::Ring(_) => kind,
     }
 }
 
@@ -78,15 +76,9 @@ fn raised(kind: Kind) -> Kind
     ensures { result ≡ raised kind }
 {
     match kind {
-        Kind::Free => Kind::Free,
         Kind::Binary(_) => Kind::Binary(1),
-        Kind::Counting(v) => {
-            if v < 32767 {
-                return Kind::Counting(v + 1);
-            }
-            Kind::Counting(v)
-        }
-        Kind::Ring(b) => Kind::Ring(b),
+        Kind::Counting(v) if v < 32767 => Kind::Counting(v + 1),
+        Kind::Free | Kind::Counting(_) | Kind::Ring(_) => kind,
     }
 }
 
@@ -94,18 +86,11 @@ fn raised(kind: Kind) -> Kind
 fn count_of(members: [u8; 32]) -> u8
     ensures { result ≡ length (keep somebody members) }
 {
-    let mut k = 0;
-    let mut i = 0;
-    while i < 32 {
-        if members[i] != 0 {
-            k += 1;
-        }
-        i += 1;
-    }
-    k
+    members.iter().filter(|p| **p != 0).count() as u8
 }
 
 // The value falls, or the caller joins the line.
+#[tactic(auto, unfolding(crate::specs::Semaphores::waited_at))]
 fn waited_at(t: Tables, n: u8, kind: Kind) -> Step
     ensures { result ≡ waited_at n t kind }
 {
@@ -116,86 +101,81 @@ fn waited_at(t: Tables, n: u8, kind: Kind) -> Step
 }
 
 // Wait.
+#[tactic(auto, unfolding(crate::specs::Semaphores::waited))]
 pub fn waited(t: Tables, n: u8) -> Step
     ensures { result ≡ waited n t }
 {
     if t.running == 0 {
         return answers::plainly(t, Outcome::No);
     }
-    let kind = kind_of(t, n);
-    if tables::is_semaphore(kind) {
-        return waited_at(t, n, kind);
+    match semaphore_at(t, n) {
+        Some(kind) => waited_at(t, n, kind),
+        None => answers::plainly(t, Outcome::No),
     }
-    answers::plainly(t, Outcome::No)
 }
 
 // Conditional wait: as wait if the value is above 0.
+#[tactic(auto, unfolding(crate::specs::Semaphores::conditionally_waited))]
 pub fn conditionally_waited(t: Tables, n: u8) -> Step
     ensures { result ≡ conditionally_waited n t }
 {
-    if t.running == 0 {
+    if value_of(kind_of(t, n)) == 0 {
         return answers::plainly(t, Outcome::No);
     }
-    let kind = kind_of(t, n);
-    if value_of(kind) == 0 {
-        return answers::plainly(t, Outcome::No);
-    }
-    answers::plainly(with_kind(t, n, lowered(kind)), Outcome::Done)
+    waited(t, n)
 }
 
 // With a line its head is released and the value stays; with none the value rises.
+#[tactic(auto, unfolding(crate::specs::Semaphores::signalled_at, crate::specs::Semaphores::has_line, ready::specs::Ready::let_through))]
 fn signalled_at(t: Tables, n: u8, kind: Kind) -> Tables
     ensures { result ≡ signalled_at n t kind }
 {
-    let Some(p) = tables::head_of(t, Line::Semaphore(n)) else {
-        return with_kind(t, n, raised(kind));
-    };
-    ready::released(t, p)
+    match tables::head_of(t, Line::Semaphore(n)) {
+        Some(p) => ready::released(t, p),
+        None => with_kind(t, n, raised(kind)),
+    }
 }
 
 // Signal.
+#[tactic(auto, unfolding(crate::specs::Semaphores::signalled))]
 pub fn signalled(t: Tables, n: u8) -> Step
     ensures { result ≡ signalled n t }
 {
-    let kind = kind_of(t, n);
-    if tables::is_semaphore(kind) {
-        return answers::plainly(signalled_at(t, n, kind), Outcome::Done);
+    match semaphore_at(t, n) {
+        Some(kind) => answers::plainly(signalled_at(t, n, kind), Outcome::Done),
+        None => answers::plainly(t, Outcome::No),
     }
-    answers::plainly(t, Outcome::No)
 }
 
 // Conditional signal: as signal if there is a line.
+#[tactic(auto, unfolding(crate::specs::Semaphores::conditionally_signalled, crate::specs::Semaphores::has_line))]
 pub fn conditionally_signalled(t: Tables, n: u8) -> Step
     ensures { result ≡ conditionally_signalled n t }
 {
-    let Some(p) = tables::head_of(t, Line::Semaphore(n)) else {
+    if tables::head_of(t, Line::Semaphore(n)).is_none() {
         return answers::plainly(t, Outcome::No);
-    };
-    if tables::is_semaphore(kind_of(t, n)) {
-        return answers::plainly(ready::released(t, p), Outcome::Done);
     }
-    answers::plainly(t, Outcome::No)
+    signalled(t, n)
 }
 
 // Those of them who are somebody are released in order, and the answer says how many.
+#[tactic(auto, using(crate::proofs::Laws::released_somebody), unfolding(crate::specs::Semaphores::all_released))]
 fn all_released(t: Tables, members: [u8; 32]) -> Step
     ensures { result ≡ all_released (keep somebody members) t }
 {
-    let count = count_of(members);
-    let next = ready::released_all(t, members);
-    let answer = answers::with_numbers(Outcome::Done, count, 0, 0);
     Step {
-        tables: next,
-        answer: answer,
+        tables: ready::released_all(t, members),
+        answer: answers::with_numbers(Outcome::Done, count_of(members), 0, 0),
     }
 }
 
 // Signal all: the whole line is released.
+#[tactic(auto, using(crate::proofs::Laws::somebody_padded), unfolding(crate::specs::Semaphores::all_signalled))]
 pub fn all_signalled(t: Tables, n: u8) -> Step
     ensures { result ≡ all_signalled n t }
 {
-    if tables::is_semaphore(kind_of(t, n)) {
-        return all_released(t, tables::line_of(t, Line::Semaphore(n)));
+    if !tables::is_semaphore(kind_of(t, n)) {
+        return answers::plainly(t, Outcome::No);
     }
-    answers::plainly(t, Outcome::No)
+    all_released(t, tables::line_of(t, Line::Semaphore(n)))
 }

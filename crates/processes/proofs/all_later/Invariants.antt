@@ -1,13 +1,9 @@
--- `processes::all_later` meets its contract: the first i processes are later; all are at the end.
-use Prim.Native.Nat.{◌≤◌, ◌-◌}
+-- `processes::all_later` meets its contract: the first ones are later, the rest as they were.
 use mathlib.Core.Path.{◌≡◌}
-use lib.ListN.{length}
+use mathlib.Core.List.{map, ◌++◌}
+use lib.ListN.{take, drop}
 use Rattle.processes.specs.Processes.{later}
-use Rattle.processes.proofs.Laws.{changed}
 use Rattle.processes.proofs.all_later.Given as goal
 
-abbrev pub invariant-loop-i : goal.invariant-loop-i
-invariant-loop-i l = (l.i ≤ 32) × (length l.processes ≡ 32) × (l.processes ≡ changed (later l.k) l.i l.initial.processes)
-
-abbrev pub decreases-loop-i : goal.decreases-loop-i
-decreases-loop-i l = 32 - l.i
+abbrev pub invariant-loop-process : goal.invariant-loop-process
+invariant-loop-process l = l.process-items ≡ map (later l.k) (take l.process-index l.initial.process-items) ++ drop l.process-index l.initial.process-items

@@ -1,14 +1,8 @@
--- `ready::released_all` meets its contract: to release those who are left, on the order and the processes so far, gives what the whole gives.
-use Prim.Native.Nat.{◌≤◌, ◌-◌}
+-- `ready::released_all` meets its contract: to release those who are left gives what the whole gives.
 use mathlib.Core.Path.{◌≡◌}
-use lib.ListN.{drop, length}
-use Rattle.ready.proofs.Laws.{seated}
+use lib.ListN.{drop}
 use Rattle.ready.specs.Ready.{released_all}
 use Rattle.ready.proofs.released_all.Given as goal
 
-abbrev pub invariant-loop-i : goal.invariant-loop-i
-invariant-loop-i l =
-    (l.i ≤ 32) × (length l.processes ≡ 32) × (released_all (drop l.i l.members) (seated l.t l.order l.processes) ≡ released_all l.members l.t)
-
-abbrev pub decreases-loop-i : goal.decreases-loop-i
-decreases-loop-i l = 32 - l.i
+abbrev pub invariant-loop-p : goal.invariant-loop-p
+invariant-loop-p l = released_all (drop l.p-index l.p-items) l.t ≡ released_all l.p-items l.initial.t
