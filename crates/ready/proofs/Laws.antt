@@ -1,40 +1,24 @@
--- A process in another place, releases one after the other, and what a dispatch does.
-use Prim.Native.Nat.{ℕ, ◌+◌, ◌-◌, ◌≤◌, ◌<◌}
+-- Releases one after the other, and what a dispatch does.
+use Prim.Native.Nat.{ℕ, ◌+◌, ◌≤◌, ◌<◌}
 use mathlib.Core.Path.{◌≡◌, sym, ◌∙◌}
 use mathlib.Core.Bool.{cond}
 use mathlib.Core.List.{List}
 use native.Mathlib.Omega.{arith}
 use native.Mathlib.Numerals.{add-one}
 use lib.Dec.{eqb, leb}
-use lib.ListN.{length, get_or, set, drop, drop_of_length-le}
+use lib.ListN.{length, get_or, drop, drop_of_length-le}
 use lib.Seq.{drop-cons}
-use borrow.Author.Tests.{eq-eqb, ne_eqb, le-ltb, lt-leb, lt-ltb, eqb-true, eqb-false, leb-false, ltb-true}
+use borrow.Author.Tests.{eq-eqb, ne_eqb, le-ltb, lt-leb, lt-ltb, eqb-true, leb-false, ltb-true}
 use Rattle.std.proofs.Common.{Some, None}
 use Rattle.std.proofs.lemmas.Option.{cond_some, none-some, same_Some}
 use Rattle.basics.specs.Tests.{test, holds, fails}
 use Rattle.tables.specs.declared.Tables.{Tables}
-use Rattle.tables.specs.declared.Process.{Process}
 use Rattle.tables.specs.declared.Place.{Place}
 use Rattle.tables.specs.declared.Place.TheVariants.{Ready}
 use Rattle.tables.specs.Numbers.{somebody}
-use Rattle.tables.specs.Access.{numbered, replaced, nobody, with_process, process_of}
-use Rattle.tables.specs.Laws.{numbered_at, numbered_past, replaced_at, replaced_zero, replaced_past}
-use Rattle.ready.specs.Ready.{placed, with_place, joins, runner_joins, released, released_all, runs, goes, ahead_of_runner, dispatched_to}
-
--- ---- a process in another place
-
-module _ (l : List Process) (p : ℕ) (place : Place) where
-  -- One of the table
-  pub put_at : (d : Process) → (p ≡ 0 → ⊥) → p ≤ length l → set l (p - 1) (placed (get_or l (p - 1) d) place) ≡ replaced l p (placed (numbered l p nobody) place)
-  put_at d some h = rw (numbered_at l p nobody d some h, replaced_at l p (placed (get_or l (p - 1) d) place) some)
-
-  -- Nobody, and a number past the table
-  pub put_out : ((p ≡ 0 → ⊥) → length l < p) → l ≡ replaced l p (placed (numbered l p nobody) place)
-  put_out past =
-      elim (test (eqb p 0)) [
-        | holds z ↦ rw (replaced_zero l p (placed (numbered l p nobody) place) (eqb-true p 0 z))
-        | fails z ↦ rw (replaced_past l p (placed (numbered l p nobody) place) (past (eqb-false p 0 z)))
-      ]
+use Rattle.tables.specs.Access.{nobody, with_process, process_of}
+use Rattle.tables.specs.Laws.{numbered_past}
+use Rattle.ready.specs.Ready.{with_place, joins, runner_joins, released, released_all, runs, goes, ahead_of_runner, dispatched_to}
 
 -- ---- releases
 

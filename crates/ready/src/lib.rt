@@ -3,10 +3,10 @@
 
 ghost use Rattle.std.specs.Prelude.{◌≡◌};
 ghost use Rattle.arrivals.specs.Order.{first};
-ghost use Rattle.tables.specs.Access.{nobody, numbered, replaced};
 ghost use Rattle.tables.specs.Lines.{ready_line};
 ghost use Rattle.ready.specs.Ready.{
   placed,
+  with_place,
   joins,
   runner_joins,
   released_to,
@@ -26,32 +26,32 @@ pub fn placed(process: Process, place: Place) -> Process
     Process { place, ..process }
 }
 
-// Process p of the table goes to another place; nobody, and a number past the table, changes nothing.
-fn put(table: &mut [Process], p: u8, place: Place)
-    ensures { table.new ≡ replaced table.old p (placed (numbered table.old p nobody) place) }
+// Process p goes to another place; its position in the order stays.
+#[tactic(auto, unfolding(crate::specs::Ready::with_place, tables::specs::Access::with_process, tables::specs::Access::process_of))]
+fn put(t: &mut Tables, p: u8, place: Place)
+    ensures { t.new ≡ with_place t.old p place }
 {
-    if 0 < p && p as usize <= table.len() {
-        table[p as usize - 1].place = place;
-    }
+    let process = tables::numbered(&t.processes, p, tables::nobody());
+    tables::replace(&mut t.processes, p, placed(process, place));
 }
 
 // Process p joins a line: it takes the line's place and is the last to have arrived. Nobody joins no line.
-#[tactic(auto, unfolding(crate::specs::Ready::joins, crate::specs::Ready::with_place, tables::specs::Access::with_process, tables::specs::Access::process_of))]
+#[tactic(auto, unfolding(crate::specs::Ready::joins, crate::specs::Ready::with_place, tables::specs::Access::with_process))]
 fn join(t: &mut Tables, p: u8, place: Place)
     ensures { t.new ≡ joins p place t.old }
 {
     if p != 0 {
-        put(&mut t.processes, p, place);
+        put(t, p, place);
         t.order = arrivals::moved_last(t.order, p);
     }
 }
 
 // Process p runs.
-#[tactic(auto, unfolding(crate::specs::Ready::runs, crate::specs::Ready::with_place, tables::specs::Access::with_process, tables::specs::Access::process_of))]
+#[tactic(auto, unfolding(crate::specs::Ready::runs))]
 fn run(t: &mut Tables, p: u8)
     ensures { t.new ≡ runs p t.old }
 {
-    put(&mut t.processes, p, Place::Running);
+    put(t, p, Place::Running);
     t.running = p;
 }
 

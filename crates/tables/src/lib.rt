@@ -151,7 +151,7 @@ pub fn numbered<T: Copy>(table: &[T], n: u8, none: T) -> T
 }
 
 // A table with x as the entry that has the number n; as it was where there is none.
-fn replace<T: Copy>(table: &mut [T], n: u8, x: T)
+pub fn replace<T: Copy>(table: &mut [T], n: u8, x: T)
     ensures { table.new ≡ replaced table.old n x }
 {
     let Some(i) = usize::from(n).checked_sub(1) else {
