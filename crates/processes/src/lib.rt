@@ -1,5 +1,6 @@
 // The process calls: create, delete, suspend, resume, change priority, schedule, state, sleep, and the tick.
-// Each says what a request does once it is accepted; where none could be, the tables stay as they are.
+// Each says what a request does once it is accepted; where none could be, the tables stay as they are. That nobody runs is
+// told by an early return in each step that asks for a runner: a helper with a closure would be no shorter.
 #![tactic(auto)]
 
 ghost use Rattle.std.specs.Prelude.{◌≡◌, ◌==◌, map, position, filter};
@@ -19,14 +20,8 @@ ghost use Rattle.processes.specs.Processes.{
   created,
   gone,
   deleted_myself,
-  marked,
-  parked,
-  suspended_from,
   suspended,
-  resumed_from,
   resumed,
-  with_priority,
-  prioritised_from,
   prioritised,
   priority_of,
   ready_has,
@@ -127,25 +122,6 @@ pub fn deleted_myself(t: Tables) -> Step
     answers::plainly(next, Outcome::Done)
 }
 
-// The process, suspended or not.
-fn marked(process: Process, suspended: bool) -> Process
-    ensures { result ≡ marked suspended process }
-{
-    Process {
-        suspended,
-        ..process
-    }
-}
-
-// Process p, marked, goes to the end of the parked line.
-#[tactic(auto, unfolding(crate::specs::Processes::parked))]
-fn parked(t: Tables, p: u8, process: Process) -> Tables
-    ensures { result ≡ parked p process t }
-{
-    let next = tables::with_process(t, p, marked(process, true));
-    ready::joins(next, p, Place::Parked)
-}
-
 // Process p anew, in its position.
 fn in_place(t: Tables, p: u8, process: Process) -> Step
     ensures { result ≡ step (with_process t p process) (plain Done) }
@@ -153,35 +129,15 @@ fn in_place(t: Tables, p: u8, process: Process) -> Step
     answers::plainly(tables::with_process(t, p, process), Outcome::Done)
 }
 
-// Process p anew, and it joins the ready line.
-fn into_ready(t: Tables, p: u8, process: Process) -> Step
-    ensures { result ≡ step (joins p Ready (with_process t p process)) (plain Done) }
+// Process p anew, and it joins the line of those in this place.
+fn joins_anew(t: Tables, p: u8, process: Process, place: Place) -> Tables
+    ensures { result ≡ joins p place (with_process t p process) }
 {
-    let next = tables::with_process(t, p, process);
-    answers::plainly(ready::joins(next, p, Place::Ready), Outcome::Done)
+    ready::joins(tables::with_process(t, p, process), p, place)
 }
 
-// Suspend, from its place: running or ready goes to the end of the parked line; waiting or asleep keeps its position.
-#[tactic(auto, unfolding(crate::specs::Processes::suspended_from))]
-fn suspended_from(t: Tables, p: u8, process: Process) -> Step
-    ensures { result ≡ suspended_from process.place p process t }
-{
-    match process.place {
-        Place::Nowhere | Place::Parked => answers::plainly(t, Outcome::No),
-        Place::Running => {
-            let mut next = parked(t, p, process);
-            next.running = 0;
-            answers::plainly(next, Outcome::Done)
-        }
-        Place::Ready => answers::plainly(parked(t, p, process), Outcome::Done),
-        Place::Waiting(_) | Place::Getting(_, _) | Place::Putting(_, _) | Place::Asleep(_) => {
-            in_place(t, p, marked(process, true))
-        }
-    }
-}
-
-// Suspend process p.
-#[tactic(auto, unfolding(crate::specs::Processes::suspended, crate::specs::Processes::suspended_of))]
+// Suspend process p: running or ready goes to the end of the parked line; waiting or asleep is marked and keeps its position.
+#[tactic(auto, unfolding(crate::specs::Processes::suspended, crate::specs::Processes::suspended_of, crate::specs::Processes::suspended_from, crate::specs::Processes::parked))]
 pub fn suspended(t: Tables, p: u8) -> Step
     ensures { result ≡ suspended p t }
 {
@@ -189,25 +145,26 @@ pub fn suspended(t: Tables, p: u8) -> Step
     if process.suspended {
         return answers::plainly(t, Outcome::No);
     }
-    suspended_from(t, p, process)
-}
-
-// Resume, from its place: a parked one joins the ready line; waiting or asleep keeps its position.
-#[tactic(auto, unfolding(crate::specs::Processes::resumed_from))]
-fn resumed_from(t: Tables, p: u8, process: Process) -> Step
-    ensures { result ≡ resumed_from process.place p process t }
-{
+    let marked = Process {
+        suspended: true,
+        ..process
+    };
     match process.place {
-        Place::Nowhere | Place::Running | Place::Ready => answers::plainly(t, Outcome::No),
-        Place::Parked => into_ready(t, p, marked(process, false)),
+        Place::Nowhere | Place::Parked => answers::plainly(t, Outcome::No),
+        Place::Running => {
+            let mut next = joins_anew(t, p, marked, Place::Parked);
+            next.running = 0;
+            answers::plainly(next, Outcome::Done)
+        }
+        Place::Ready => answers::plainly(joins_anew(t, p, marked, Place::Parked), Outcome::Done),
         Place::Waiting(_) | Place::Getting(_, _) | Place::Putting(_, _) | Place::Asleep(_) => {
-            in_place(t, p, marked(process, false))
+            in_place(t, p, marked)
         }
     }
 }
 
-// Resume process p.
-#[tactic(auto, unfolding(crate::specs::Processes::resumed, crate::specs::Processes::resumed_of))]
+// Resume process p: a parked one joins the ready line; waiting or asleep keeps its position.
+#[tactic(auto, unfolding(crate::specs::Processes::resumed, crate::specs::Processes::resumed_of, crate::specs::Processes::resumed_from))]
 pub fn resumed(t: Tables, p: u8) -> Step
     ensures { result ≡ resumed p t }
 {
@@ -215,33 +172,22 @@ pub fn resumed(t: Tables, p: u8) -> Step
     if !process.suspended {
         return answers::plainly(t, Outcome::No);
     }
-    resumed_from(t, p, process)
-}
-
-// The process with another priority.
-fn with_priority(process: Process, priority: u8) -> Process
-    ensures { result ≡ with_priority priority process }
-{
-    Process {
-        priority,
+    let marked = Process {
+        suspended: false,
         ..process
-    }
-}
-
-// Change priority, in its place: a ready process is moved behind its new equals; others only get the new number.
-#[tactic(auto, unfolding(crate::specs::Processes::prioritised_from))]
-fn prioritised_from(t: Tables, p: u8, process: Process) -> Step
-    ensures { result ≡ prioritised_from process.place p process t }
-{
+    };
     match process.place {
-        Place::Nowhere => answers::plainly(t, Outcome::No),
-        Place::Ready => into_ready(t, p, process),
-        _ => in_place(t, p, process),
+        Place::Nowhere | Place::Running | Place::Ready => answers::plainly(t, Outcome::No),
+        Place::Parked => answers::plainly(joins_anew(t, p, marked, Place::Ready), Outcome::Done),
+        Place::Waiting(_) | Place::Getting(_, _) | Place::Putting(_, _) | Place::Asleep(_) => {
+            in_place(t, p, marked)
+        }
     }
 }
 
-// Change the priority of process p; to the present value changes nothing.
-#[tactic(auto, unfolding(crate::specs::Processes::prioritised, crate::specs::Processes::prioritised_of))]
+// Change the priority of process p: a ready process is moved behind its new equals; others only get the new number. To the
+// present value changes nothing.
+#[tactic(auto, unfolding(crate::specs::Processes::prioritised, crate::specs::Processes::prioritised_of, crate::specs::Processes::prioritised_from, crate::specs::Processes::is_free))]
 pub fn prioritised(t: Tables, p: u8, priority: u8) -> Step
     ensures { result ≡ prioritised p priority t }
 {
@@ -252,7 +198,14 @@ pub fn prioritised(t: Tables, p: u8, priority: u8) -> Step
     if process.priority == priority {
         return answers::plainly(t, Outcome::Done);
     }
-    prioritised_from(t, p, with_priority(process, priority))
+    let anew = Process {
+        priority,
+        ..process
+    };
+    match process.place {
+        Place::Ready => answers::plainly(joins_anew(t, p, anew, Place::Ready), Outcome::Done),
+        _ => in_place(t, p, anew),
+    }
 }
 
 // The priority of process p, 0 of nobody.
@@ -305,7 +258,7 @@ pub fn stated(t: Tables, p: u8) -> Step
         return answers::plainly(t, Outcome::No);
     }
     let spot = tables::spot_of(process.place);
-    let code = tables::place_code(process) as u32;
+    let code = u32::from(tables::place_code(process));
     Step {
         tables: t,
         answer: answers::with_numbers(Outcome::Done, spot, process.priority, code),

@@ -1,24 +1,26 @@
 -- Releases one after the other, and what a dispatch does.
-use Prim.Native.Nat.{ℕ, ◌+◌, ◌≤◌, ◌<◌}
+use Prim.Native.Nat.{ℕ, ◌+◌, ◌-◌, ◌≤◌, ◌<◌}
 use mathlib.Core.Path.{◌≡◌, sym, ◌∙◌}
 use mathlib.Core.Bool.{cond}
 use mathlib.Core.List.{List}
 use native.Mathlib.Omega.{arith}
 use native.Mathlib.Numerals.{add-one}
 use lib.Dec.{eqb, leb}
-use lib.ListN.{length, get_or, drop, drop_of_length-le}
+use lib.ListN.{length, get_or, set, drop, drop_of_length-le}
 use lib.Seq.{drop-cons}
 use borrow.Author.Tests.{eq-eqb, ne_eqb, le-ltb, lt-leb, lt-ltb, eqb-true, leb-false, ltb-true}
 use Rattle.std.proofs.Common.{Some, None}
 use Rattle.std.proofs.lemmas.Option.{cond_some, none-some, same_Some}
 use Rattle.basics.specs.Tests.{test, holds, fails}
+use Rattle.arrivals.specs.Order.{moved_last}
 use Rattle.tables.specs.declared.Tables.{Tables}
+use Rattle.tables.specs.declared.Process.{Process}
 use Rattle.tables.specs.declared.Place.{Place}
 use Rattle.tables.specs.declared.Place.TheVariants.{Ready}
 use Rattle.tables.specs.Numbers.{somebody}
-use Rattle.tables.specs.Access.{nobody, with_process, process_of}
-use Rattle.tables.specs.Laws.{numbered_past}
-use Rattle.ready.specs.Ready.{with_place, joins, runner_joins, released, released_all, runs, goes, ahead_of_runner, dispatched_to}
+use Rattle.tables.specs.Access.{nobody, with_order, with_processes, with_process, process_of}
+use Rattle.tables.specs.Laws.{numbered_at, numbered_past, replaced_at}
+use Rattle.ready.specs.Ready.{placed, released_to, with_place, joins, runner_joins, released, released_all, runs, goes, ahead_of_runner, dispatched_to}
 
 -- ---- releases
 
@@ -38,6 +40,18 @@ nobody_joins p place t e = rw (eq-eqb p 0 e)
 pub nobody_released : (p : ℕ) (t : Tables) → p ≡ 0 → t ≡ released p t
 unfolding released
 nobody_released p t e = nobody_joins p _ t e
+
+-- The tables with this order and these processes
+abbrev pub seated : Tables → List ℕ → List Process → Tables
+seated t order processes = with_processes (with_order t order) processes
+
+-- A process of the table is released, on the order and the processes alone
+pub one_released : (t : Tables) (order moved : List ℕ) (processes : List Process) (p : ℕ) → (p ≡ 0 → ⊥) → moved ≡ moved_last p order
+    → (q d : Process) → p ≤ length processes → q ≡ placed (get_or processes (p - 1) d) (released_to (get_or processes (p - 1) d).suspended)
+    → seated t moved (set processes (p - 1) q) ≡ released p (seated t order processes)
+unfolding released joins with_place with_process process_of
+one_released t order moved processes p some last q d h e =
+    rw (ne_eqb p 0 some, numbered_at processes p nobody d some h, replaced_at processes p (placed (get_or processes (p - 1) d) _) some, last, e)
 
 -- ---- dispatch
 

@@ -54,7 +54,7 @@ fn value_of(kind: Kind) -> u16
     ensures { result ≡ value kind }
 {
     match kind {
-        Kind::Binary(v) => v as u16,
+        Kind::Binary(v) => u16::from(v),
         Kind::Counting(v) => v,
         Kind::Free | Kind::Ring(_) => 0,
     }

@@ -14,10 +14,8 @@ ghost use Rattle.structures.specs.Structures.{
   created_semaphore,
   created_ring,
   created,
-  deleted_at,
   deleted,
   valued_as,
-  valued_at,
   valued,
 };
 
@@ -122,27 +120,19 @@ pub fn created(t: Tables, kind: u8, amount: u32) -> Step
     }
 }
 
-// The number is free again, and a ring's bay all zero.
-#[tactic(auto, unfolding(crate::specs::Structures::deleted_at))]
-fn deleted_at(t: Tables, n: u8, kind: Kind) -> Step
-    ensures { result ≡ deleted_at n t kind }
+// Delete structure: the number is free again, and a ring's bay all zero.
+#[tactic(auto, unfolding(crate::specs::Structures::deleted, crate::specs::Structures::deleted_at))]
+pub fn deleted(t: Tables, n: u8) -> Step
+    ensures { result ≡ deleted n t }
 {
     let next = tables::with_structure(t, n, tables::nothing());
-    match kind {
+    match tables::structure_at(t, n).kind {
         Kind::Free => answers::plainly(t, Outcome::No),
         Kind::Binary(_) | Kind::Counting(_) => answers::plainly(next, Outcome::Done),
         Kind::Ring(b) => {
             answers::plainly(tables::with_ring(next, b, bay::empty_bay()), Outcome::Done)
         }
     }
-}
-
-// Delete structure.
-#[tactic(auto, unfolding(crate::specs::Structures::deleted))]
-pub fn deleted(t: Tables, n: u8) -> Step
-    ensures { result ≡ deleted n t }
-{
-    deleted_at(t, n, tables::structure_at(t, n).kind)
 }
 
 // The answer for a structure of this kind: who stands in its lines, the kind, and its value or bytes held.
@@ -157,23 +147,16 @@ fn valued_as(t: Tables, n: u8, kind: Kind, m: u32) -> Step
     }
 }
 
-// The value of a semaphore, or the bytes that a ring holds, with the rest of the answer.
-#[tactic(auto, unfolding(crate::specs::Structures::valued_at))]
-fn valued_at(t: Tables, n: u8, kind: Kind) -> Step
-    ensures { result ≡ valued_at n t kind }
-{
-    match kind {
-        Kind::Free => answers::plainly(t, Outcome::No),
-        Kind::Binary(v) => valued_as(t, n, kind, v as u32),
-        Kind::Counting(v) => valued_as(t, n, kind, v as u32),
-        Kind::Ring(b) => valued_as(t, n, kind, tables::ring_in(t, b).held as u32),
-    }
-}
-
-// Structure value.
-#[tactic(auto, unfolding(crate::specs::Structures::valued))]
+// Structure value: of a semaphore its value, of a ring the bytes that it holds, with the rest of the answer.
+#[tactic(auto, unfolding(crate::specs::Structures::valued, crate::specs::Structures::valued_at))]
 pub fn valued(t: Tables, n: u8) -> Step
     ensures { result ≡ valued n t }
 {
-    valued_at(t, n, tables::structure_at(t, n).kind)
+    let kind = tables::structure_at(t, n).kind;
+    match kind {
+        Kind::Free => answers::plainly(t, Outcome::No),
+        Kind::Binary(v) => valued_as(t, n, kind, u32::from(v)),
+        Kind::Counting(v) => valued_as(t, n, kind, u32::from(v)),
+        Kind::Ring(b) => valued_as(t, n, kind, u32::from(tables::ring_in(t, b).held)),
+    }
 }
