@@ -27,22 +27,25 @@ use Rattle.answers.specs.Answers.{answer, plain, step}
 use Rattle.rings.proofs.InTurn.{getter_first, putter_first, nobody_first}
 use native.Mathlib.Omega.{arith}
 use native.Mathlib.Numerals.{add-one}
-use lib.ListN.{length, take, drop, set, get_or, length-map, get_or-map, drop_of_length-le, replicate, replicate-append-replicate}
+use lib.ListN.{length, take, drop, set, get_or, drop_of_length-le, replicate, replicate-append-replicate}
+use Rattle.std.proofs.lemmas.List.{same_lists, get_or-map, length-map}
+use Rattle.std.specs.Array.{IsMapOf}
+use denote.Param.Members.{Mut, Called}
 use lib.Seq.{take-suc, take-suc-set, take_all, drop-drop, drop-cons, get_or-take, length-take-le}
 
 -- Who is written behind the first k is the next of the first k + 1
 pub one_chosen : (l : List ℕ) (k j x : ℕ) → j ≡ k + 1 → k < length l → take j (set l k x) ≡ take k l ++ (x ∷ [])
 one_chosen l k j x e h = rw (e, add-one) (take-suc-set l k x h)
 
--- One more length is written
-pub one_length : {A : Type 0} (f : A → ℕ) (ps : List A) (l : List ℕ) (i v : ℕ) (d : A) → length l ≡ length ps → i < length ps → v ≡ f (get_or ps i d) → take i l ≡ take i (map f ps) → take (i + 1) (set l i v) ≡ take (i + 1) (map f ps)
-one_length f ps l i v d e h w k =
-    let fits : i < length (map f ps) = rw (length-map ps f) h in
-    rw (add-one, take-suc-set l i v (omega arith), take-suc (map f ps) i (f d) fits, k, w, get_or-map f ps i d)
-
--- All are written
-pub all_lengths : {A : Type 0} (f : A → ℕ) (ps : List A) (l : List ℕ) (i : ℕ) → length l ≡ length ps → length ps ≤ i → take i l ≡ take i (map f ps) → l ≡ map f ps
-all_lengths f ps l i e h k = sym (take_all i l (omega arith)) ∙ k ∙ take_all i (map f ps) (rw (length-map ps f) h)
+-- An array's map is the list's
+pub mapped : {F A B : Type 0} (g : Mut F (A × Unit {0}) B) (f : F) (h : A → B) (xs : List A) (ys : List B) (n : ℕ) (d : A)
+    → length xs ≡ n → IsMapOf g f xs ys n → ((p : F) (x : A) (y : B) (q : F) → Called g p (x, tt) y q → y ≡ h x) → ys ≡ map h xs
+mapped g f h xs ys n d long is calls =
+    same_lists ys (map h xs) (is.long ∙ sym long ∙ sym (length-map xs h))
+    (λ k e within.
+    let fits : k < n = rw is.long at within in
+    let call = is.at k d e fits in
+    calls call.0 _ _ call.1 call.2 ∙ sym (get_or-map h xs k d e (omega arith)))
 
 -- ---- a turn of the serving
 

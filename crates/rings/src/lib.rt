@@ -69,31 +69,17 @@ pub fn asked_in(place: Place) -> u8
     ensures { result ≡ asked place }
 {
     match place {
-        Place::Nowhere => 0,
-        Place::Running => 0,
-        Place::Ready => 0,
-        Place::Parked => 0,
-        Place::Waiting(_) => 0,
-        Place::Getting(_, l) => l,
-        Place::Putting(_, l) => l,
-        Place::Asleep(_) => 0,
+        Place::Getting(_, l) | Place::Putting(_, l) => l,
+        _ => 0,
     }
 }
 
 // The lengths of all processes.
+#[tactic(auto, unfolding(crate::specs::Serving::lengths_of))]
 fn lengths_of(t: Tables) -> [u8; 32]
     ensures { result ≡ lengths_of t }
 {
-    let mut lengths = [0; 32];
-    let processes = t.processes;
-    let mut i = 0;
-    while i < 32 {
-        let process = processes[i];
-        let place = process.place;
-        lengths[i] = asked_in(place);
-        i += 1;
-    }
-    lengths
+    t.processes.map(|process| asked_in(process.place))
 }
 
 // The length of process p.
@@ -127,20 +113,14 @@ fn member(line: &[u8; 32], at: u8) -> u8
 pub fn getter_goes(p: u8, l: u8, held: u16) -> bool
     ensures { result ≡ cond (eqb p 0) false (leb l held) }
 {
-    if p == 0 {
-        return false;
-    }
-    l as u16 <= held
+    p != 0 && u16::from(l) <= held
 }
 
 // Can p, the head putter, be served: is there room for what it brings?
 pub fn putter_goes(p: u8, l: u8, held: u16, size: u16) -> bool
     ensures { result ≡ cond (eqb p 0) false (leb (held + l) size) }
 {
-    if p == 0 {
-        return false;
-    }
-    held as usize + l as usize <= size as usize
+    p != 0 && usize::from(held) + usize::from(l) <= usize::from(size)
 }
 
 // The plan with getter p chosen, which takes l bytes.
@@ -234,6 +214,7 @@ fn turns(t: Tables, n: u8, b: u8) -> Plan
 }
 
 // So many bytes of the parcel enter the ring in bay b.
+#[tactic(auto, unfolding(crate::specs::Serving::entered))]
 fn entered(t: Tables, b: u8, parcel: Parcel, l: u8) -> Tables
     ensures { result ≡ entered b parcel l t }
 {
@@ -242,48 +223,26 @@ fn entered(t: Tables, b: u8, parcel: Parcel, l: u8) -> Tables
 }
 
 // Does p, whose entry has this place, stand in a line of a ring?
+#[tactic(auto, unfolding(crate::specs::Serving::at_ring, tables::specs::Lines::is_number))]
 fn at_ring(p: u8, place: Place) -> bool
     ensures { result ≡ cond (is_number p) (at_ring place) false }
 {
-    if p == 0 {
-        return false;
-    }
-    if 32 < p {
-        return false;
-    }
-    match place {
-        Place::Nowhere => false,
-        Place::Running => false,
-        Place::Ready => false,
-        Place::Parked => false,
-        Place::Waiting(_) => false,
-        Place::Getting(_, _) => true,
-        Place::Putting(_, _) => true,
-        Place::Asleep(_) => false,
-    }
+    (1..=32).contains(&p) && matches!(place, Place::Getting(..) | Place::Putting(..))
 }
 
 // What the service of one in this place leaves of the ring and of its parcel: a getter's bytes lie in its parcel, a putter's
 // bytes enter the ring and its parcel is emptied.
+#[tactic(auto, unfolding(crate::specs::Serving::exchanged))]
 fn exchanged(ring: Ring, parcel: Parcel, place: Place) -> Moved
     ensures { result ≡ exchanged place ring parcel }
 {
     match place {
-        Place::Nowhere => Moved { ring, parcel },
-        Place::Running => Moved { ring, parcel },
-        Place::Ready => Moved { ring, parcel },
-        Place::Parked => Moved { ring, parcel },
-        Place::Waiting(_) => Moved { ring, parcel },
         Place::Getting(_, l) => bay::get(ring, parcel, 0, l),
-        Place::Putting(_, l) => {
-            let fuller = bay::put(ring, parcel, 0, l);
-            let empty = bay::empty_parcel();
-            Moved {
-                ring: fuller,
-                parcel: empty,
-            }
-        }
-        Place::Asleep(_) => Moved { ring, parcel },
+        Place::Putting(_, l) => Moved {
+            ring: bay::put(ring, parcel, 0, l),
+            parcel: bay::empty_parcel(),
+        },
+        _ => Moved { ring, parcel },
     }
 }
 
@@ -333,41 +292,28 @@ fn services(t: Tables, b: u8, plan: Plan, answer: Answer) -> Step
 }
 
 // The parcel of the first l of these bytes.
-fn parcel_of(bytes: [u8; 64], l: u8) -> Parcel
+#[tactic(auto, unfolding(bay::specs::Bay::parcel_of, bay::specs::Bay::zeros))]
+fn parcel_of(mut bytes: [u8; 64], l: u8) -> Parcel
     ensures { result ≡ parcel_of (take l bytes) }
 {
-    if 64 <= l {
-        return Parcel {
-            bytes: bytes,
-            holds: Some(64),
-        };
-    }
-    let mut kept = bytes;
-    let mut i = l as usize;
-    while i < 64 {
-        kept[i] = 0;
-        i += 1;
-    }
+    let l = l.min(64);
+    bytes[usize::from(l)..].fill(0);
     Parcel {
-        bytes: kept,
+        bytes,
         holds: Some(l),
     }
 }
 
 // Is this a length that a transfer at a ring of this size may have?
+#[tactic(auto, unfolding(crate::specs::Rings::allowed))]
 fn allowed(l: u8, size: u16) -> bool
     ensures { result ≡ allowed l size }
 {
-    if l == 0 {
-        return false;
-    }
-    if 64 < l {
-        return false;
-    }
-    l as u16 <= size
+    (1..=64).contains(&l) && u16::from(l) <= size
 }
 
 // Does a transfer go through at once: nobody stands in its side's line, and the room or the bytes suffice?
+#[tactic(auto, unfolding(crate::specs::Rings::at_once))]
 fn at_once(head: u8, enough: bool) -> bool
     ensures { result ≡ at_once head enough }
 {
@@ -378,6 +324,7 @@ fn at_once(head: u8, enough: bool) -> bool
 }
 
 // The way of l bytes at the ring in bay b.
+#[tactic(auto, unfolding(crate::specs::Rings::way_of))]
 fn way_of(b: u8, size: u16, l: u8, head: u8, enough: bool) -> Way
     ensures { result ≡ way_of b size l head enough }
 {
@@ -508,6 +455,7 @@ fn got_through(t: Tables, n: u8, b: u8, l: u8) -> Step
 }
 
 // The caller joins the getters.
+#[tactic(auto, unfolding(crate::specs::Rings::get_waits))]
 fn get_waits(t: Tables, n: u8, l: u8) -> Step
     ensures { result ≡ get_waits n l t }
 {
@@ -548,20 +496,18 @@ fn reset_in(t: Tables, n: u8, b: u8) -> Step
 }
 
 // Call 22, reset ring.
+#[tactic(auto, unfolding(crate::specs::Rings::reset_ring, crate::specs::Rings::reset_kind))]
 pub fn reset_ring(t: Tables, n: u8) -> Step
     ensures { result ≡ reset_ring n t }
 {
-    let structure = tables::structure_at(t, n);
-    let kind = structure.kind;
-    match kind {
-        Kind::Free => answers::plainly(t, Outcome::No),
-        Kind::Binary(_) => answers::plainly(t, Outcome::No),
-        Kind::Counting(_) => answers::plainly(t, Outcome::No),
+    match tables::structure_at(t, n).kind {
         Kind::Ring(b) => reset_in(t, n, b),
+        _ => answers::plainly(t, Outcome::No),
     }
 }
 
 // The caller's parcel, which holds l bytes, is emptied, and they are the answer's.
+#[tactic(auto, unfolding(crate::specs::Rings::collected_bytes))]
 fn collected_bytes(t: Tables, l: u8, bytes: [u8; 64]) -> Step
     ensures { result ≡ collected_bytes l bytes t }
 {
@@ -580,6 +526,7 @@ fn collected_bytes(t: Tables, l: u8, bytes: [u8; 64]) -> Step
 }
 
 // Call 23, collect.
+#[tactic(auto, unfolding(crate::specs::Rings::collected, crate::specs::Rings::collected_from))]
 pub fn collected(t: Tables) -> Step
     ensures { result ≡ collected t }
 {
