@@ -1,24 +1,23 @@
 // Rings: put and get, their conditional forms, reset, collect, and the serving of the lines.
 #![tactic(auto)]
 
-ghost use Rattle.std.specs.Prelude.{◌≡◌, cond, false, [], ◌∷◌, ◌++◌, ◌+◌, ◌-◌, ◌≤◌, ◌<◌, eqb, leb, length, take, drop};
+ghost use Rattle.std.specs.Prelude.{◌≡◌, cond, false, ◌+◌, eqb, leb, take};
+ghost use Rattle.std.specs.Iterator.{YieldsFirst, item_count};
 ghost use Rattle.arrivals.specs.Order.{first};
 ghost use Rattle.bay.specs.Bay.{parcel_of};
 ghost use Rattle.tables.specs.Access.{ring_in};
 ghost use Rattle.tables.specs.Lines.{is_number};
-ghost use Rattle.answers.specs.Answers.{plain, step};
+ghost use Rattle.answers.specs.declared.Outcome.TheVariants.{Done};
+ghost use Rattle.answers.specs.Answers.{answer, step};
 ghost use Rattle.rings.specs.Serving.{
   asked,
   lengths_of,
   length_for,
-  getter_goes,
-  chosen,
   to_come,
-  turns,
   entered,
   at_ring,
   exchanged,
-  services,
+  served,
 };
 ghost use Rattle.rings.specs.Rings.{
   allowed,
@@ -46,13 +45,15 @@ use answers::{Answer, Outcome, Step};
 use bay::{Moved, Parcel, Ring};
 use tables::{Kind, Line, Place, Tables};
 
-// Who is to be served: how many bytes are held then, how far each line has been gone through, and who it is, in turn.
+// Who of a ring's two lines is served, in turn: the ring's size, how many bytes are held by then, the lengths of all
+// processes, and who is left of each line.
 #[derive(Clone, Copy)]
-struct Plan {
+struct Turns<'a> {
+    size: u16,
     held: u16,
-    getter: u8,
-    putter: u8,
-    served: [u8; 64],
+    lengths: &'a [u8],
+    getters: &'a [u8],
+    putters: &'a [u8],
 }
 
 // What becomes of a transfer: no request could be accepted; it goes through at once, in this bay; the line, or the room or
@@ -83,30 +84,21 @@ fn lengths_of(t: Tables) -> [u8; 32]
 }
 
 // The length of process p.
-fn length_for(lengths: &[u8; 32], p: u8) -> u8
-    requires { length lengths.now ≡ 32 }
+#[tactic(auto, unfolding(crate::specs::Serving::length_for, tables::specs::Access::numbered))]
+fn length_for(lengths: &[u8], p: u8) -> u8
     ensures { result ≡ length_for lengths.now p }
 {
     if p == 0 {
         return 0;
     }
-    if 32 < p {
-        return 0;
-    }
-    let i = (p - 1) as usize;
-    lengths[i]
+    lengths.get(usize::from(p) - 1).copied().unwrap_or(0)
 }
 
-// The one who stands so far behind the head of a line, or nobody.
-fn member(line: &[u8; 32], at: u8) -> u8
-    requires { length line.now ≡ 32 }
-    ensures { result ≡ first (drop at line.now) }
+// The head of a line, or nobody.
+fn head(line: &[u8]) -> u8
+    ensures { result ≡ first line.now }
 {
-    if 32 <= at {
-        return 0;
-    }
-    let i = at as usize;
-    line[i]
+    line.first().copied().unwrap_or(0)
 }
 
 // Can p, the head getter, be served: does it want no more than is held?
@@ -123,94 +115,31 @@ pub fn putter_goes(p: u8, l: u8, held: u16, size: u16) -> bool
     p != 0 && usize::from(held) + usize::from(l) <= usize::from(size)
 }
 
-// The plan with getter p chosen, which takes l bytes.
-fn getter_chosen(plan: Plan, p: u8, l: u8) -> Plan
-    requires { (plan.getter < 32) × (plan.putter ≤ 32) × (l ≤ plan.held) }
-    ensures { (result.getter ≤ 32) × (result.held ≡ plan.held - l) × (result.getter ≡ plan.getter + 1) × (result.putter ≡ plan.putter) × (chosen result ≡ chosen plan ++ (p ∷ [])) }
-{
-    let at = plan.getter as usize + plan.putter as usize;
-    let mut next = plan;
-    next.served[at] = p;
-    next.held = plan.held - l as u16;
-    next.getter = plan.getter + 1;
-    next
-}
+impl<'a> Iterator for Turns<'a> {
+    type Item = u8;
 
-// The plan with putter p chosen, which brings l bytes.
-fn putter_chosen(plan: Plan, p: u8, l: u8, size: u16) -> Plan
-    requires { (plan.getter ≤ 32) × (plan.putter < 32) × (plan.held + l ≤ size) }
-    ensures { (result.putter ≤ 32) × (result.held ≡ plan.held + l) × (result.getter ≡ plan.getter) × (result.putter ≡ plan.putter + 1) × (chosen result ≡ chosen plan ++ (p ∷ [])) }
-{
-    let at = plan.getter as usize + plan.putter as usize;
-    let mut next = plan;
-    next.served[at] = p;
-    next.held = plan.held + l as u16;
-    next.putter = plan.putter + 1;
-    next
-}
+    ghost next_gives = { YieldsFirst to_come };
 
-// If the head getter wants no more than is held, it is served, and then again; if not, it is the head putter's turn.
-#[cycle(serve_getter_serve_putter)]
-fn serve_getter(
-    plan: Plan,
-    size: u16,
-    getters: &[u8; 32],
-    putters: &[u8; 32],
-    lengths: &[u8; 32],
-) -> Plan
-    requires { (length getters.now ≡ 32) × (length putters.now ≡ 32) × (length lengths.now ≡ 32) × (plan.getter ≤ 32) × (plan.putter ≤ 32) }
-    ensures { (result.getter ≤ 32) × (result.putter ≤ 32) × (chosen result ≡ chosen plan ++ to_come lengths.now size plan getters.now putters.now) }
-{
-    let p = member(getters, plan.getter);
-    let l = length_for(lengths, p);
-    if getter_goes(p, l, plan.held) {
-        return serve_getter(getter_chosen(plan, p, l), size, getters, putters, lengths);
+    ghost remaining = { item_count to_come };
+
+    // If the head getter wants no more than is held, it is served; if not, the head putter goes in when there is room.
+    fn next(&mut self) -> Option<u8> {
+        let getter = head(self.getters);
+        let wants = length_for(self.lengths, getter);
+        if getter_goes(getter, wants, self.held) {
+            self.getters = &self.getters[1..];
+            self.held -= u16::from(wants);
+            return Some(getter);
+        }
+        let putter = head(self.putters);
+        let brings = length_for(self.lengths, putter);
+        if putter_goes(putter, brings, self.held, self.size) {
+            self.putters = &self.putters[1..];
+            self.held += u16::from(brings);
+            return Some(putter);
+        }
+        None
     }
-    serve_putter(plan, size, getters, putters, lengths)
-}
-
-// The head putter goes in when there is room, and then it is the head getter's turn again; if not, neither can be served.
-#[cycle(serve_getter_serve_putter)]
-fn serve_putter(
-    plan: Plan,
-    size: u16,
-    getters: &[u8; 32],
-    putters: &[u8; 32],
-    lengths: &[u8; 32],
-) -> Plan
-    requires getters_len { (length getters.now ≡ 32) × (length putters.now ≡ 32) × (length lengths.now ≡ 32) × (plan.getter ≤ 32) × (plan.putter ≤ 32) }
-    requires getters_value { getter_goes lengths.now plan.held (drop plan.getter getters.now) ≡ false }
-    ensures { (result.getter ≤ 32) × (result.putter ≤ 32) × (chosen result ≡ chosen plan ++ to_come lengths.now size plan getters.now putters.now) }
-{
-    let p = member(putters, plan.putter);
-    let l = length_for(lengths, p);
-    if putter_goes(p, l, plan.held, size) {
-        return serve_getter(
-            putter_chosen(plan, p, l, size),
-            size,
-            getters,
-            putters,
-            lengths,
-        );
-    }
-    plan
-}
-
-// Who is served at ring n, which lies in bay b.
-fn turns(t: Tables, n: u8, b: u8) -> Plan
-    ensures { (result.getter ≤ 32) × (result.putter ≤ 32) × (chosen result ≡ turns n b t) }
-{
-    let ring = tables::ring_in(t, b);
-    let getters = tables::line_of(t, Line::Getters(n));
-    let putters = tables::line_of(t, Line::Putters(n));
-    let lengths = lengths_of(t);
-    let plan = Plan {
-        held: ring.held,
-        getter: 0,
-        putter: 0,
-        served: [0; 64],
-    };
-    serve_getter(plan, ring.size, &getters, &putters, &lengths)
 }
 
 // So many bytes of the parcel enter the ring in bay b.
@@ -246,47 +175,35 @@ fn exchanged(ring: Ring, parcel: Parcel, place: Place) -> Moved
     }
 }
 
-// Those whom the plan has chosen are served, one after the other: transferred and released. The answer is the caller's: tables
-// that went to it alone would be copied once more.
-fn services(t: Tables, b: u8, plan: Plan, answer: Answer) -> Step
-    requires { (plan.getter ≤ 32) × (plan.putter ≤ 32) }
-    ensures { result ≡ step (services b (chosen plan) t) answer }
+// The lines of ring n, which lies in bay b, are served: one after the other is transferred and released. With nobody in
+// them that is all. The answer is the caller's: tables that went to it alone would be copied once more.
+fn served(mut t: Tables, n: u8, b: u8, answer: Answer) -> Step
+    ensures { result ≡ step (served n b t) answer }
 {
-    let count = plan.getter as usize + plan.putter as usize;
-    if count == 0 {
+    if tables::in_lines_of(t, n) == 0 {
         return Step { tables: t, answer };
     }
     let mut ring = tables::ring_in(t, b);
-    let mut order = t.order;
-    let mut processes = t.processes;
-    let mut parcels = t.parcels;
-    let mut i: usize = 0;
-    while i < count {
-        let p = plan.served[i];
+    let turns = Turns {
+        size: ring.size,
+        held: ring.held,
+        lengths: &lengths_of(t),
+        getters: &tables::line_of(t, Line::Getters(n)),
+        putters: &tables::line_of(t, Line::Putters(n)),
+    };
+    for p in turns {
         let k = tables::entry_of(p);
-        let process = processes[k];
-        let place = process.place;
-        if at_ring(p, place) {
-            let parcel = parcels[k];
-            let moved = exchanged(ring, parcel, place);
-            let left = moved.ring;
-            ring = left;
-            let filled = moved.parcel;
-            parcels[k] = filled;
-            let after = ready::released_process(process);
-            processes[k] = after;
-            let last = arrivals::moved_last(order, p);
-            order = last;
+        let process = t.processes[k];
+        if at_ring(p, process.place) {
+            let moved = exchanged(ring, t.parcels[k], process.place);
+            ring = moved.ring;
+            t.parcels[k] = moved.parcel;
+            t.processes[k] = ready::released_process(process);
+            t.order = arrivals::moved_last(t.order, p);
         }
-        i += 1;
     }
-    let mut next = t;
-    next.order = order;
-    next.processes = processes;
-    next.parcels = parcels;
-    let last = tables::with_ring(next, b, ring);
     Step {
-        tables: last,
+        tables: tables::with_ring(t, b, ring),
         answer,
     }
 }
@@ -386,15 +303,13 @@ fn way_out(t: Tables, n: u8, l: u8) -> Way
 }
 
 // The bytes enter the ring in bay b, and the lines are served. With nobody in them that is all.
+#[tactic(auto, unfolding(crate::specs::Rings::put_through))]
 fn put_through(t: Tables, n: u8, b: u8, l: u8, bytes: [u8; 64]) -> Step
     ensures { result ≡ put_through n b l bytes t }
 {
     let next = entered(t, b, parcel_of(bytes, l), l);
-    if tables::in_lines_of(t, n) == 0 {
-        return answers::plainly(next, Outcome::Done);
-    }
     let done = answers::with_numbers(Outcome::Done, 0, 0, 0);
-    services(next, b, turns(next, n, b), done)
+    served(next, n, b, done)
 }
 
 // The caller joins the putters, its bytes in its parcel.
@@ -428,30 +343,25 @@ pub fn put_in(t: Tables, n: u8, l: u8, bytes: [u8; 64], waits: bool) -> Step
     }
 }
 
+// The answer that brings these l bytes.
+fn bringing(l: u8, bytes: [u8; 64]) -> Answer
+    ensures { result ≡ answer Done 0 l 0 bytes }
+{
+    Answer {
+        l,
+        bytes,
+        ..answers::with_numbers(Outcome::Done, 0, 0, 0)
+    }
+}
+
 // So many bytes leave the ring in bay b and are the answer's, and the lines are served. With nobody in them that is all.
+#[tactic(auto, unfolding(crate::specs::Rings::got_through, crate::specs::Rings::got_from))]
 fn got_through(t: Tables, n: u8, b: u8, l: u8) -> Step
     ensures { result ≡ got_through n b l t }
 {
-    let ring = tables::ring_in(t, b);
-    let moved = bay::get(ring, bay::empty_parcel(), 0, l);
-    let rest = moved.ring;
-    let parcel = moved.parcel;
-    let bytes = parcel.bytes;
-    let next = tables::with_ring(t, b, rest);
-    let answer = Answer {
-        outcome: Outcome::Done,
-        n: 0,
-        l: l,
-        m: 0,
-        bytes: bytes,
-    };
-    if tables::in_lines_of(t, n) == 0 {
-        return Step {
-            tables: next,
-            answer: answer,
-        };
-    }
-    services(next, b, turns(next, n, b), answer)
+    let moved = bay::get(tables::ring_in(t, b), bay::empty_parcel(), 0, l);
+    let next = tables::with_ring(t, b, moved.ring);
+    served(next, n, b, bringing(l, moved.parcel.bytes))
 }
 
 // The caller joins the getters.
@@ -483,16 +393,14 @@ pub fn got(t: Tables, n: u8, l: u8, waits: bool) -> Step
 }
 
 // The ring in bay b throws its held bytes away, then serves. With nobody in the lines that is all.
+#[tactic(auto, unfolding(crate::specs::Rings::reset_in))]
 fn reset_in(t: Tables, n: u8, b: u8) -> Step
     ensures { result ≡ reset_in n b t }
 {
     let ring = tables::ring_in(t, b);
     let thrown = tables::with_ring(t, b, bay::reset(ring));
-    if tables::in_lines_of(t, n) == 0 {
-        return answers::plainly(thrown, Outcome::Done);
-    }
     let done = answers::with_numbers(Outcome::Done, 0, 0, 0);
-    services(thrown, b, turns(thrown, n, b), done)
+    served(thrown, n, b, done)
 }
 
 // Call 22, reset ring.
@@ -512,16 +420,9 @@ fn collected_bytes(t: Tables, l: u8, bytes: [u8; 64]) -> Step
     ensures { result ≡ collected_bytes l bytes t }
 {
     let next = tables::with_parcel(t, t.running, bay::empty_parcel());
-    let answer = Answer {
-        outcome: Outcome::Done,
-        n: 0,
-        l: l,
-        m: 0,
-        bytes: bytes,
-    };
     Step {
         tables: next,
-        answer: answer,
+        answer: bringing(l, bytes),
     }
 }
 
