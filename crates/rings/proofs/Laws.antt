@@ -1,29 +1,27 @@
 -- What the loops and the plan write, one step on; a turn of the serving; and the two forms of a transfer.
 use Prim.Native.Nat.{ℕ, ◌+◌, ◌-◌, ◌<◌}
 use mathlib.Core.Path.{◌≡◌, refl, sym, ◌∙◌}
-use mathlib.Core.Bool.{Bool, true, false, cond, ◌&&◌, true≢false}
+use mathlib.Core.Bool.{Bool, true, false, cond, true≢false}
 use mathlib.Core.List.{List, [], ◌∷◌, map}
 use lib.Dec.{eqb, leb}
 use Rattle.basics.specs.Tests.{test, holds, fails}
 use Rattle.arrivals.specs.Order.{first, keep}
 use Rattle.bay.specs.declared.Parcel.{Parcel}
 use Rattle.bay.specs.declared.Ring.{Ring}
-use Rattle.bay.specs.Bay.{parcel_of}
 use Rattle.tables.specs.declared.Tables.{Tables}
 use Rattle.tables.specs.declared.Place.{Place}
 use Rattle.tables.specs.declared.Place.TheVariants.{Nowhere, Running, Ready, Parked, Waiting, Getting, Putting, Asleep}
+use Rattle.tables.specs.declared.Kind.{Kind}
+use Rattle.tables.specs.declared.Kind.TheVariants as kinds
 use Rattle.tables.specs.declared.Line.TheVariants.{Getters, Putters}
-use Rattle.tables.specs.Access.{numbered, nobody, process_of, ring_in, with_process, with_parcel}
+use Rattle.tables.specs.Access.{numbered, nobody, process_of, structure_of, ring_in, with_process, with_parcel}
 use Rattle.tables.specs.Lines.{stands, standing, line, padded, waits_at, waiting_at, in_lines_of}
 use Rattle.ready.specs.Ready.{with_place, joins, runner_joins}
 use Rattle.rings.specs.Serving.{lengths_of, length_for, getter_goes, putter_goes, in_turn, service, services, turns, served}
-use Rattle.rings.specs.Rings.{put_waits}
-use Rattle.answers.specs.declared.Outcome.TheVariants.{Waits}
-use Rattle.answers.specs.declared.Step.{Step}
-use Rattle.answers.specs.Answers.{plain, step}
+use Rattle.rings.specs.Rings.{way_to_kind, way_past, way_into_ring, way_into_kind, way_in, way_out_of_ring, way_out_of_kind, way_out}
 use Rattle.rings.proofs.InTurn.{getter_first, putter_first, nobody_first, zeros_behind}
 use native.Mathlib.Omega.{arith}
-use lib.ListN.{length, take}
+use lib.ListN.{length}
 use Rattle.std.specs.List.{between}
 use Rattle.std.proofs.lemmas.Slice.{between_to_end}
 use Rattle.std.proofs.lemmas.List.{same_lists, get_or-map, length-map}
@@ -117,38 +115,42 @@ pub none_waiting : (n b : ℕ) (t : Tables) → in_lines_of n t ≡ 0 → t ≡ 
 unfolding served services
 none_waiting n b t h = rw (none_turns n b t h)
 
+-- ---- the way past a line
+
+into_kind : (n l : ℕ) (kind : Kind) (t : Tables) → way_to_kind (Putters n) (λ r. leb (r.held + l) r.size) l kind t ≡ way_into_kind n l kind t
+unfolding way_to_kind way_into_kind way_into_ring
+into_kind n l kinds.Free t = refl
+into_kind n l (kinds.Binary v) t = refl
+into_kind n l (kinds.Counting v) t = refl
+into_kind n l (kinds.Ring b) t = refl
+
+-- The way in is past the putters, where there is room
+pub past_putters : (n l : ℕ) (t : Tables) → way_past (Putters n) (λ r. leb (r.held + l) r.size) n l t ≡ way_in n l t
+unfolding way_past way_in
+past_putters n l t = into_kind n l (structure_of t n).kind t
+
+out_of_kind : (n l : ℕ) (kind : Kind) (t : Tables) → way_to_kind (Getters n) (λ r. leb l r.held) l kind t ≡ way_out_of_kind n l kind t
+unfolding way_to_kind way_out_of_kind way_out_of_ring
+out_of_kind n l kinds.Free t = refl
+out_of_kind n l (kinds.Binary v) t = refl
+out_of_kind n l (kinds.Counting v) t = refl
+out_of_kind n l (kinds.Ring b) t = refl
+
+-- The way out is past the getters, where so many are held
+pub past_getters : (n l : ℕ) (t : Tables) → way_past (Getters n) (λ r. leb l r.held) n l t ≡ way_out n l t
+unfolding way_past way_out
+past_getters n l t = out_of_kind n l (structure_of t n).kind t
+
+-- ---- who waits
+
 -- The runner's parcel may be filled once it has joined
-parcel_joins : (place : Place) (x : Parcel) (t : Tables) → with_parcel (runner_joins place t) t.running x ≡ runner_joins place (with_parcel t t.running x)
+pub parcel_joins : (place : Place) (x : Parcel) (t : Tables) → with_parcel (runner_joins place t) t.running x ≡ runner_joins place (with_parcel t t.running x)
 unfolding runner_joins joins with_place with_process with_parcel process_of
 parcel_joins place x t =
     elim (test (eqb t.running 0)) [
       | holds e ↦ rw e
       | fails e ↦ rw e
     ]
-
-pub put_joined : (n l : ℕ) (bytes : List ℕ) (t u s : Tables) (x : Parcel) (r : Step) → x ≡ parcel_of (take l bytes) → u ≡ runner_joins (Putting n l) t → s ≡ with_parcel u t.running x → r ≡ step s (plain Waits)
-    → r ≡ put_waits n l bytes t
-unfolding put_waits
-put_joined n l bytes t u s x r e f h k = rw (k, h, f, e, parcel_joins (Putting n l) (parcel_of (take l bytes)) t)
-
--- ---- the form that waits, and the form that does not
-
--- Where both do the same, that is done
-pub either_form : {A : Type 0} (waits : Bool) (a : A) → a ≡ cond waits a a
-either_form true a = refl
-either_form false a = refl
-
--- The form that waits, with nobody to wait
-pub nobody_waits : {A : Type 0} (waits nobody : Bool) (a b c : A) → (waits && nobody) ≡ true → a ≡ cond waits (cond nobody a b) c
-nobody_waits true true a b c e = refl
-nobody_waits true false a b c e = absurd (true≢false (sym e))
-nobody_waits false nobody a b c e = absurd (true≢false (sym e))
-
--- Otherwise, where both do the same, that is done
-pub either_way : {A : Type 0} (waits nobody : Bool) (a b : A) → (waits && nobody) ≡ false → b ≡ cond waits (cond nobody a b) b
-either_way true true a b e = absurd (true≢false e)
-either_way true false a b e = refl
-either_way false nobody a b e = refl
 
 -- ---- the lines are served
 

@@ -1,10 +1,11 @@
 // Rings: put and get, their conditional forms, reset, collect, and the serving of the lines.
 #![tactic(auto)]
 
-ghost use Rattle.std.specs.Prelude.{◌≡◌, cond, false, ◌+◌, eqb, leb, take};
+ghost use Rattle.std.specs.Prelude.{◌≡◌, Bool, cond, false, ◌+◌, eqb, leb, take};
 ghost use Rattle.std.specs.Iterator.{YieldsFirst, item_count};
 ghost use Rattle.arrivals.specs.Order.{first};
 ghost use Rattle.bay.specs.Bay.{parcel_of};
+ghost use Rattle.bay.specs.declared.Ring.{Ring};
 ghost use Rattle.tables.specs.Access.{ring_in};
 ghost use Rattle.tables.specs.Lines.{is_number};
 ghost use Rattle.answers.specs.declared.Outcome.TheVariants.{Done};
@@ -21,11 +22,8 @@ ghost use Rattle.rings.specs.Serving.{
 };
 ghost use Rattle.rings.specs.Rings.{
   allowed,
-  at_once,
-  way_of,
-  way_into_ring,
+  way_past,
   way_in,
-  way_out_of_ring,
   way_out,
   put_through,
   put_waits,
@@ -147,8 +145,7 @@ impl<'a> Iterator for Turns<'a> {
 fn entered(t: Tables, b: u8, parcel: Parcel, l: u8) -> Tables
     ensures { result ≡ entered b parcel l t }
 {
-    let ring = tables::ring_in(t, b);
-    tables::with_ring(t, b, bay::put(ring, parcel, 0, l))
+    tables::with_ring(t, b, bay::put(tables::ring_in(t, b), parcel, 0, l))
 }
 
 // Does p, whose entry has this place, stand in a line of a ring?
@@ -229,77 +226,42 @@ fn allowed(l: u8, size: u16) -> bool
     (1..=64).contains(&l) && u16::from(l) <= size
 }
 
-// Does a transfer go through at once: nobody stands in its side's line, and the room or the bytes suffice?
-#[tactic(auto, unfolding(crate::specs::Rings::at_once))]
-fn at_once(head: u8, enough: bool) -> bool
-    ensures { result ≡ at_once head enough }
+// The way of l bytes at structure n: past those in this line, where the ring has what suffices.
+fn way_past<F: Fn(Ring) -> bool>(t: Tables, n: u8, l: u8, line: Line, suffices: F) -> Way
+    requires { F.IsAlwaysCallable suffices }
+    ensures { (enough : Ring → Bool) → ((ring : Ring) (x : Bool) → F.post suffices ring x → x ≡ enough ring) → result ≡ way_past line enough n l t }
 {
-    if head == 0 {
-        return enough;
-    }
-    false
-}
-
-// The way of l bytes at the ring in bay b.
-#[tactic(auto, unfolding(crate::specs::Rings::way_of))]
-fn way_of(b: u8, size: u16, l: u8, head: u8, enough: bool) -> Way
-    ensures { result ≡ way_of b size l head enough }
-{
-    if allowed(l, size) {
-        if at_once(head, enough) {
-            return Way::AtOnce(b);
-        }
-        return Way::Blocked;
-    }
-    Way::Closed
-}
-
-// The way into the ring in bay b, past the putters of ring n.
-fn way_into_ring(t: Tables, n: u8, l: u8, b: u8) -> Way
-    ensures { result ≡ way_into_ring n l b (ring_in t b) t }
-{
+    let Kind::Ring(b) = tables::structure_at(t, n).kind else {
+        return Way::Closed;
+    };
     let ring = tables::ring_in(t, b);
-    let head = tables::head_of(t, Line::Putters(n)).unwrap_or(0);
-    let room = ring.held as usize + l as usize <= ring.size as usize;
-    way_of(b, ring.size, l, head, room)
+    if !allowed(l, ring.size) {
+        return Way::Closed;
+    }
+    if tables::head_of(t, line) == 0 && suffices(ring) {
+        return Way::AtOnce(b);
+    }
+    Way::Blocked
 }
 
-// The way of l bytes into structure n.
+// The way of l bytes into structure n: past the putters, where there is room.
 fn way_in(t: Tables, n: u8, l: u8) -> Way
     ensures { result ≡ way_in n l t }
 {
-    let structure = tables::structure_at(t, n);
-    let kind = structure.kind;
-    match kind {
-        Kind::Free => Way::Closed,
-        Kind::Binary(_) => Way::Closed,
-        Kind::Counting(_) => Way::Closed,
-        Kind::Ring(b) => way_into_ring(t, n, l, b),
-    }
+    way_past(
+        t,
+        n,
+        l,
+        Line::Putters(n),
+        |ring| usize::from(ring.held) + usize::from(l) <= usize::from(ring.size),
+    )
 }
 
-// The way out of the ring in bay b, past the getters of ring n.
-fn way_out_of_ring(t: Tables, n: u8, l: u8, b: u8) -> Way
-    ensures { result ≡ way_out_of_ring n l b (ring_in t b) t }
-{
-    let ring = tables::ring_in(t, b);
-    let head = tables::head_of(t, Line::Getters(n)).unwrap_or(0);
-    let bytes = l as u16 <= ring.held;
-    way_of(b, ring.size, l, head, bytes)
-}
-
-// The way of l bytes out of structure n.
+// The way of l bytes out of structure n: past the getters, where so many are held.
 fn way_out(t: Tables, n: u8, l: u8) -> Way
     ensures { result ≡ way_out n l t }
 {
-    let structure = tables::structure_at(t, n);
-    let kind = structure.kind;
-    match kind {
-        Kind::Free => Way::Closed,
-        Kind::Binary(_) => Way::Closed,
-        Kind::Counting(_) => Way::Closed,
-        Kind::Ring(b) => way_out_of_ring(t, n, l, b),
-    }
+    way_past(t, n, l, Line::Getters(n), |ring| u16::from(l) <= ring.held)
 }
 
 // The bytes enter the ring in bay b, and the lines are served. With nobody in them that is all.
@@ -308,11 +270,11 @@ fn put_through(t: Tables, n: u8, b: u8, l: u8, bytes: [u8; 64]) -> Step
     ensures { result ≡ put_through n b l bytes t }
 {
     let next = entered(t, b, parcel_of(bytes, l), l);
-    let done = answers::with_numbers(Outcome::Done, 0, 0, 0);
-    served(next, n, b, done)
+    served(next, n, b, answers::with_numbers(Outcome::Done, 0, 0, 0))
 }
 
 // The caller joins the putters, its bytes in its parcel.
+#[tactic(auto, using(crate::proofs::Laws::parcel_joins), unfolding(crate::specs::Rings::put_waits))]
 fn put_waits(t: Tables, n: u8, l: u8, bytes: [u8; 64]) -> Step
     ensures { result ≡ put_waits n l bytes t }
 {
@@ -324,22 +286,17 @@ fn put_waits(t: Tables, n: u8, l: u8, bytes: [u8; 64]) -> Step
 }
 
 // Call 18, put, or call 19, conditional put, which does not wait.
+#[tactic(auto, unfolding(crate::specs::Rings::put_in, crate::specs::Rings::put_by, crate::specs::Rings::conditionally_put, crate::specs::Rings::conditionally_put_by))]
 pub fn put_in(t: Tables, n: u8, l: u8, bytes: [u8; 64], waits: bool) -> Step
     ensures { result ≡ cond waits (put_in n l bytes t) (conditionally_put n l bytes t) }
 {
-    if waits & (t.running == 0) {
+    if waits && t.running == 0 {
         return answers::plainly(t, Outcome::No);
     }
-    let way = way_in(t, n, l);
-    match way {
-        Way::Closed => answers::plainly(t, Outcome::No),
+    match way_in(t, n, l) {
         Way::AtOnce(b) => put_through(t, n, b, l, bytes),
-        Way::Blocked => {
-            if waits {
-                return put_waits(t, n, l, bytes);
-            }
-            answers::plainly(t, Outcome::No)
-        }
+        Way::Blocked if waits => put_waits(t, n, l, bytes),
+        Way::Blocked | Way::Closed => answers::plainly(t, Outcome::No),
     }
 }
 
@@ -373,22 +330,17 @@ fn get_waits(t: Tables, n: u8, l: u8) -> Step
 }
 
 // Call 20, get, or call 21, conditional get, which does not wait.
+#[tactic(auto, unfolding(crate::specs::Rings::got, crate::specs::Rings::got_by, crate::specs::Rings::conditionally_got, crate::specs::Rings::conditionally_got_by))]
 pub fn got(t: Tables, n: u8, l: u8, waits: bool) -> Step
     ensures { result ≡ cond waits (got n l t) (conditionally_got n l t) }
 {
     if t.running == 0 {
         return answers::plainly(t, Outcome::No);
     }
-    let way = way_out(t, n, l);
-    match way {
-        Way::Closed => answers::plainly(t, Outcome::No),
+    match way_out(t, n, l) {
         Way::AtOnce(b) => got_through(t, n, b, l),
-        Way::Blocked => {
-            if waits {
-                return get_waits(t, n, l);
-            }
-            answers::plainly(t, Outcome::No)
-        }
+        Way::Blocked if waits => get_waits(t, n, l),
+        Way::Blocked | Way::Closed => answers::plainly(t, Outcome::No),
     }
 }
 
@@ -397,10 +349,8 @@ pub fn got(t: Tables, n: u8, l: u8, waits: bool) -> Step
 fn reset_in(t: Tables, n: u8, b: u8) -> Step
     ensures { result ≡ reset_in n b t }
 {
-    let ring = tables::ring_in(t, b);
-    let thrown = tables::with_ring(t, b, bay::reset(ring));
-    let done = answers::with_numbers(Outcome::Done, 0, 0, 0);
-    served(thrown, n, b, done)
+    let thrown = tables::with_ring(t, b, bay::reset(tables::ring_in(t, b)));
+    served(thrown, n, b, answers::with_numbers(Outcome::Done, 0, 0, 0))
 }
 
 // Call 22, reset ring.
@@ -419,9 +369,8 @@ pub fn reset_ring(t: Tables, n: u8) -> Step
 fn collected_bytes(t: Tables, l: u8, bytes: [u8; 64]) -> Step
     ensures { result ≡ collected_bytes l bytes t }
 {
-    let next = tables::with_parcel(t, t.running, bay::empty_parcel());
     Step {
-        tables: next,
+        tables: tables::with_parcel(t, t.running, bay::empty_parcel()),
         answer: bringing(l, bytes),
     }
 }
@@ -432,10 +381,8 @@ pub fn collected(t: Tables) -> Step
     ensures { result ≡ collected t }
 {
     let parcel = tables::parcel_for(t, t.running);
-    let bytes = parcel.bytes;
-    let holds = parcel.holds;
-    match holds {
+    match parcel.holds {
+        Some(l) => collected_bytes(t, l, parcel.bytes),
         None => answers::plainly(t, Outcome::No),
-        Some(l) => collected_bytes(t, l, bytes),
     }
 }
