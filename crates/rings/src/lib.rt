@@ -26,6 +26,7 @@ ghost use Rattle.rings.specs.Rings.{
   way_in,
   way_out,
   put_through,
+  waits,
   put_waits,
   put_in,
   conditionally_put,
@@ -55,12 +56,20 @@ struct Turns<'a> {
 }
 
 // What becomes of a transfer: no request could be accepted; it goes through at once, in this bay; the line, or the room or
-// the bytes, are in the way.
+// the bytes, are in the way. As a `Result` it would be no plainer: who is blocked may wait, and `put_in` and `got` would
+// have the same three arms.
 #[derive(Clone, Copy)]
 pub enum Way {
     Closed,
     AtOnce(u8),
     Blocked,
+}
+
+// The two forms of a transfer: where the way is blocked the caller waits, or it is answered that nothing was performed.
+#[derive(Clone, Copy)]
+pub enum Form {
+    Waiting,
+    Conditional,
 }
 
 // The bytes that a process in this place wants or brings.
@@ -92,7 +101,7 @@ fn length_for(lengths: &[u8], p: u8) -> u8
     lengths.get(usize::from(p) - 1).copied().unwrap_or(0)
 }
 
-// The head of a line, or nobody.
+// The head of a line, or nobody: 0, as behind the lines that the tables give.
 fn head(line: &[u8]) -> u8
     ensures { result ≡ first line.now }
 {
@@ -106,11 +115,18 @@ pub fn getter_goes(p: u8, l: u8, held: u16) -> bool
     p != 0 && u16::from(l) <= held
 }
 
+// Is there room for l bytes more?
+fn has_room(l: u8, held: u16, size: u16) -> bool
+    ensures { result ≡ leb (held + l) size }
+{
+    usize::from(held) + usize::from(l) <= usize::from(size)
+}
+
 // Can p, the head putter, be served: is there room for what it brings?
 pub fn putter_goes(p: u8, l: u8, held: u16, size: u16) -> bool
     ensures { result ≡ cond (eqb p 0) false (leb (held + l) size) }
 {
-    p != 0 && usize::from(held) + usize::from(l) <= usize::from(size)
+    p != 0 && has_room(l, held, size)
 }
 
 impl<'a> Iterator for Turns<'a> {
@@ -253,7 +269,7 @@ fn way_in(t: Tables, n: u8, l: u8) -> Way
         n,
         l,
         Line::Putters(n),
-        |ring| usize::from(ring.held) + usize::from(l) <= usize::from(ring.size),
+        |ring| has_room(l, ring.held, ring.size),
     )
 }
 
@@ -285,18 +301,19 @@ fn put_waits(t: Tables, n: u8, l: u8, bytes: [u8; 64]) -> Step
     )
 }
 
-// Call 18, put, or call 19, conditional put, which does not wait.
+// Call 18, put, or call 19, conditional put, which does not wait. The arms are those of `got`: one match for both would take
+// what goes through and who waits as closures, which is longer than the three arms.
 #[tactic(auto, unfolding(crate::specs::Rings::put_in, crate::specs::Rings::put_by, crate::specs::Rings::conditionally_put, crate::specs::Rings::conditionally_put_by))]
-pub fn put_in(t: Tables, n: u8, l: u8, bytes: [u8; 64], waits: bool) -> Step
-    ensures { result ≡ cond waits (put_in n l bytes t) (conditionally_put n l bytes t) }
+pub fn put_in(t: Tables, n: u8, l: u8, bytes: [u8; 64], form: Form) -> Step
+    ensures { result ≡ cond (waits form) (put_in n l bytes t) (conditionally_put n l bytes t) }
 {
-    if waits && t.running == 0 {
+    if matches!(form, Form::Waiting) && t.running == 0 {
         return answers::plainly(t, Outcome::No);
     }
-    match way_in(t, n, l) {
-        Way::AtOnce(b) => put_through(t, n, b, l, bytes),
-        Way::Blocked if waits => put_waits(t, n, l, bytes),
-        Way::Blocked | Way::Closed => answers::plainly(t, Outcome::No),
+    match (way_in(t, n, l), form) {
+        (Way::AtOnce(b), _) => put_through(t, n, b, l, bytes),
+        (Way::Blocked, Form::Waiting) => put_waits(t, n, l, bytes),
+        (Way::Blocked, Form::Conditional) | (Way::Closed, _) => answers::plainly(t, Outcome::No),
     }
 }
 
@@ -331,16 +348,16 @@ fn get_waits(t: Tables, n: u8, l: u8) -> Step
 
 // Call 20, get, or call 21, conditional get, which does not wait.
 #[tactic(auto, unfolding(crate::specs::Rings::got, crate::specs::Rings::got_by, crate::specs::Rings::conditionally_got, crate::specs::Rings::conditionally_got_by))]
-pub fn got(t: Tables, n: u8, l: u8, waits: bool) -> Step
-    ensures { result ≡ cond waits (got n l t) (conditionally_got n l t) }
+pub fn got(t: Tables, n: u8, l: u8, form: Form) -> Step
+    ensures { result ≡ cond (waits form) (got n l t) (conditionally_got n l t) }
 {
     if t.running == 0 {
         return answers::plainly(t, Outcome::No);
     }
-    match way_out(t, n, l) {
-        Way::AtOnce(b) => got_through(t, n, b, l),
-        Way::Blocked if waits => get_waits(t, n, l),
-        Way::Blocked | Way::Closed => answers::plainly(t, Outcome::No),
+    match (way_out(t, n, l), form) {
+        (Way::AtOnce(b), _) => got_through(t, n, b, l),
+        (Way::Blocked, Form::Waiting) => get_waits(t, n, l),
+        (Way::Blocked, Form::Conditional) | (Way::Closed, _) => answers::plainly(t, Outcome::No),
     }
 }
 
