@@ -1,4 +1,4 @@
--- What the loops and the plan write, one step on; a turn of the serving; and the two forms of a transfer.
+-- An array's map; a turn of the serving; where nobody waits; the ways past a line; the lines served one after the other.
 use Prim.Native.Nat.{ℕ, ◌+◌, ◌-◌, ◌<◌}
 use mathlib.Core.Path.{◌≡◌, refl, sym, ◌∙◌}
 use mathlib.Core.Bool.{Bool, true, false, cond, true≢false}
@@ -10,37 +10,40 @@ use Rattle.bay.specs.declared.Parcel.{Parcel}
 use Rattle.bay.specs.declared.Ring.{Ring}
 use Rattle.tables.specs.declared.Tables.{Tables}
 use Rattle.tables.specs.declared.Place.{Place}
-use Rattle.tables.specs.declared.Place.TheVariants.{Nowhere, Running, Ready, Parked, Waiting, Getting, Putting, Asleep}
 use Rattle.tables.specs.declared.Kind.{Kind}
 use Rattle.tables.specs.declared.Kind.TheVariants as kinds
 use Rattle.tables.specs.declared.Line.TheVariants.{Getters, Putters}
 use Rattle.tables.specs.Access.{numbered, nobody, process_of, structure_of, ring_in, with_process, with_parcel}
+use borrow.Author.Tests.{eqb-true}
+use Rattle.tables.specs.Numbers.{code, spot}
 use Rattle.tables.specs.Lines.{stands, standing, line, padded, waits_at, waiting_at, in_lines_of}
 use Rattle.ready.specs.Ready.{with_place, joins, runner_joins}
 use Rattle.rings.specs.Serving.{lengths_of, length_for, getter_goes, putter_goes, in_turn, service, services, turns, served}
 use Rattle.rings.specs.Rings.{way_to_kind, way_past, way_into_ring, way_into_kind, way_in, way_out_of_ring, way_out_of_kind, way_out}
 use Rattle.rings.proofs.InTurn.{getter_first, putter_first, nobody_first, zeros_behind}
 use native.Mathlib.Omega.{arith}
-use lib.ListN.{length}
+use lib.ListN.{length, get_or}
 use Rattle.std.specs.List.{between}
 use Rattle.std.proofs.lemmas.Slice.{between_to_end}
 use Rattle.std.proofs.lemmas.List.{same_lists, get_or-map, length-map}
 use Rattle.std.specs.Array.{IsMapOf}
 use denote.Param.Members.{Mut, Called}
 
--- An array's map is the list's
-pub mapped : {F A B : Type 0} (g : Mut F (A × Unit {0}) B) (f : F) (h : A → B) (xs : List A) (ys : List B) (n : ℕ) (d : A)
-    → length xs ≡ n → IsMapOf g f xs ys n → ((p : F) (x : A) (y : B) (q : F) → Called g p (x, tt) y q → y ≡ h x) → ys ≡ map h xs
-mapped g f h xs ys n d long is calls =
-    same_lists ys (map h xs) (is.long ∙ sym long ∙ sym (length-map xs h))
-    (λ k e within.
-    let fits : k < n = rw is.long at within in
-    let call = is.at k d e fits in
-    calls call.0 _ _ call.1 call.2 ∙ sym (get_or-map h xs k d e (omega arith)))
+-- ---- an array's map is the list's
+
+module _ {F A B : Type 0} (g : Mut F (A × Unit {0}) B) (f : F) (h : A → B) (xs : List A) (ys : List B) (n : ℕ) (d : A)
+    (long : length xs ≡ n) (is : IsMapOf g f xs ys n) (calls : (p : F) (x : A) (y : B) (q : F) → Called g p (x, tt) y q → y ≡ h x) where
+  mapped_at : (k : ℕ) (e : B) → k < length ys → get_or ys k e ≡ get_or (map h xs) k e
+  mapped_at k e within =
+      let call = is.at k d e (rw is.long at within) in
+      calls call.0 _ _ call.1 call.2 ∙ sym (get_or-map h xs k d e (omega (arith, is.long)))
+
+  pub mapped : ys ≡ map h xs
+  mapped = same_lists ys (map h xs) (is.long ∙ sym long ∙ sym (length-map xs h)) mapped_at
 
 -- ---- a turn of the serving
 
-module _ (k gs ps : List ℕ) (size held p q l m : ℕ) (b c : Bool) (its : l ≡ length_for k p) (head : p ≡ first gs) (goes : b ≡ cond (eqb p 0) false (leb l held)) where
+module _ (k gs ps : List ℕ) (size held p l : ℕ) (b : Bool) (its : l ≡ length_for k p) (head : p ≡ first gs) (goes : b ≡ cond (eqb p 0) false (leb l held)) where
   -- The code's test is the rule's
   getter_test : getter_goes k held gs ≡ b
   unfolding getter_goes
@@ -51,7 +54,7 @@ module _ (k gs ps : List ℕ) (size held p q l m : ℕ) (b c : Bool) (its : l �
   getter_turn t = rw (getter_first k size held gs ps (getter_test ∙ t), its, head, between_to_end gs 1 (length gs) (omega arith))
 
   -- If not, it is the head putter's turn
-  module _ (not : b ≡ false) (theirs : m ≡ length_for k q) (first_putter : q ≡ first ps) (fits : c ≡ cond (eqb q 0) false (leb (held + m) size)) where
+  module _ (q m : ℕ) (c : Bool) (not : b ≡ false) (theirs : m ≡ length_for k q) (first_putter : q ≡ first ps) (fits : c ≡ cond (eqb q 0) false (leb (held + m) size)) where
     putter_test : putter_goes k size held ps ≡ c
     unfolding putter_goes
     putter_test = rw (fits, theirs, first_putter)
@@ -78,36 +81,22 @@ none_kept f g narrower (x ∷ l) h =
           ]
     ]
 
--- A getter and a putter stand in the lines of their ring
-getter_waits : (n : ℕ) (place : Place) → stands (Getters n) place ≡ true → waits_at n place ≡ true
-unfolding stands waits_at
-getter_waits n Nowhere h = absurd (true≢false (sym h))
-getter_waits n Running h = absurd (true≢false (sym h))
-getter_waits n Ready h = absurd (true≢false (sym h))
-getter_waits n Parked h = absurd (true≢false (sym h))
-getter_waits n (Waiting m) h = absurd (true≢false (sym h))
-getter_waits n (Getting m l) h = h
-getter_waits n (Putting m l) h = absurd (true≢false (sym h))
-getter_waits n (Asleep k) h = absurd (true≢false (sym h))
-
-putter_waits : (n : ℕ) (place : Place) → stands (Putters n) place ≡ true → waits_at n place ≡ true
-unfolding stands waits_at
-putter_waits n Nowhere h = absurd (true≢false (sym h))
-putter_waits n Running h = absurd (true≢false (sym h))
-putter_waits n Ready h = absurd (true≢false (sym h))
-putter_waits n Parked h = absurd (true≢false (sym h))
-putter_waits n (Waiting m) h = absurd (true≢false (sym h))
-putter_waits n (Getting m l) h = absurd (true≢false (sym h))
-putter_waits n (Putting m l) h = h
-putter_waits n (Asleep k) h = absurd (true≢false (sym h))
+-- Who stands in a line of structure n waits at it: at codes 4 to 6
+line_waits : (k n : ℕ) (place : Place) → leb 4 k ≡ true → leb k 6 ≡ true → cond (eqb (code place) k) (eqb (spot place) n) false ≡ true → waits_at n place ≡ true
+unfolding waits_at
+line_waits k n place low high h =
+    elim (test (eqb (code place) k)) [
+      | holds e ↦ rw (eqb-true (code place) k e, low, high) (rw e at h)
+      | fails e ↦ absurd (true≢false (sym (rw e at h)))
+    ]
 
 -- Then nobody is served
 none_turns : (n b : ℕ) (t : Tables) → in_lines_of n t ≡ 0 → turns n b t ≡ []
-unfolding turns line in_lines_of getter_goes putter_goes
+unfolding turns line in_lines_of stands getter_goes putter_goes
 none_turns n b t h =
     rw (
-      none_kept (standing (Getters n) t.processes) (waiting_at n t.processes) (λ x. getter_waits n (numbered t.processes x nobody).place) t.order h,
-      none_kept (standing (Putters n) t.processes) (waiting_at n t.processes) (λ x. putter_waits n (numbered t.processes x nobody).place) t.order h,
+      none_kept (standing (Getters n) t.processes) (waiting_at n t.processes) (λ x. line_waits 5 n (numbered t.processes x nobody).place refl refl) t.order h,
+      none_kept (standing (Putters n) t.processes) (waiting_at n t.processes) (λ x. line_waits 6 n (numbered t.processes x nobody).place refl refl) t.order h,
     )
     (nobody_first (lengths_of t) (ring_in t b).size (ring_in t b).held [] [] refl refl)
 

@@ -46,7 +46,7 @@ use tables::{Kind, Line, Place, Tables};
 
 // Who of a ring's two lines is served, in turn: the ring's size, how many bytes are held by then, the lengths of all
 // processes, and who is left of each line.
-#[derive(Clone, Copy)]
+#[derive(Drop)]
 struct Turns<'a> {
     size: u16,
     held: u16,
