@@ -188,14 +188,13 @@ fn exchanged(ring: Ring, parcel: Parcel, place: Place) -> Moved
     }
 }
 
-// The lines of ring n, which lies in bay b, are served: one after the other is transferred and released. With nobody in
-// them that is all. The answer is the caller's: tables that went to it alone would be copied once more.
-fn served(mut t: Tables, n: u8, b: u8, answer: Answer) -> Step
+// The lines of ring n, which lies in bay b, are served: one after the other is transferred and released. The answer is the
+// caller's: tables that went to it alone would be copied once more. Apart from `served`, whose calls mostly find nobody in
+// the lines and then take neither this function's time nor its stack.
+#[inline(never)]
+fn served_in_turn(mut t: Tables, n: u8, b: u8, answer: Answer) -> Step
     ensures { result ≡ step (served n b t) answer }
 {
-    if tables::in_lines_of(t, n) == 0 {
-        return Step { tables: t, answer };
-    }
     let mut ring = tables::ring_in(t, b);
     let turns = Turns {
         size: ring.size,
@@ -219,6 +218,16 @@ fn served(mut t: Tables, n: u8, b: u8, answer: Answer) -> Step
         tables: tables::with_ring(t, b, ring),
         answer,
     }
+}
+
+// The same, where nobody in the lines is to be served.
+fn served(t: Tables, n: u8, b: u8, answer: Answer) -> Step
+    ensures { result ≡ step (served n b t) answer }
+{
+    if tables::in_lines_of(t, n) == 0 {
+        return Step { tables: t, answer };
+    }
+    served_in_turn(t, n, b, answer)
 }
 
 // The parcel of the first l of these bytes.

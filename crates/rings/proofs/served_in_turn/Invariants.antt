@@ -1,8 +1,8 @@
--- `rings::served` meets its contract: who is left to be served, on the tables so far, gives what the whole gives.
+-- `rings::served_in_turn` meets its contract: who is left to be served, on the tables so far, gives what the whole gives.
 use Rattle.std.specs.Prelude.{◌≡◌, length}
 use Rattle.rings.specs.Serving.{to_come, services, served}
 use Rattle.rings.proofs.Replay.{parts, Its}
-use Rattle.rings.proofs.served.Given as goal
+use Rattle.rings.proofs.served_in_turn.Given as goal
 
 abbrev pub invariant-loop-p : goal.invariant-loop-p
 invariant-loop-p l =
