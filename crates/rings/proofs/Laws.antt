@@ -43,23 +43,25 @@ module _ {F A B : Type 0} (g : Mut F (A × Unit {0}) B) (f : F) (h : A → B) (x
 
 -- ---- a turn of the serving
 
-module _ (k gs ps : List ℕ) (size held p l : ℕ) (b : Bool) (its : l ≡ length_for k p) (head : p ≡ first gs) (goes : b ≡ cond (eqb p 0) false (leb l held)) where
+module _ (k gs ps : List ℕ) (size held p l : ℕ) (b : Bool) (its : l ≡ numbered k p 0) (head : p ≡ first gs) (goes : b ≡ cond (eqb p 0) false (leb l held)) where
   -- The code's test is the rule's
   getter_test : getter_goes k held gs ≡ b
-  unfolding getter_goes
+  unfolding getter_goes length_for
   getter_test = rw (goes, its, head)
 
   -- The head getter is served, and then whoever comes next
   pub getter_turn : b ≡ true → in_turn k size held gs ps ≡ p ∷ in_turn k size (held - l) (between 1 (length gs) gs) ps
+  unfolding length_for
   getter_turn t = rw (getter_first k size held gs ps (getter_test ∙ t), its, head, between_to_end gs 1 (length gs) (omega arith))
 
   -- If not, it is the head putter's turn
-  module _ (q m : ℕ) (c : Bool) (not : b ≡ false) (theirs : m ≡ length_for k q) (first_putter : q ≡ first ps) (fits : c ≡ cond (eqb q 0) false (leb (held + m) size)) where
+  module _ (q m : ℕ) (c : Bool) (not : b ≡ false) (theirs : m ≡ numbered k q 0) (first_putter : q ≡ first ps) (fits : c ≡ cond (eqb q 0) false (leb (held + m) size)) where
     putter_test : putter_goes k size held ps ≡ c
-    unfolding putter_goes
+    unfolding putter_goes length_for
     putter_test = rw (fits, theirs, first_putter)
 
     pub putter_turn : c ≡ true → in_turn k size held gs ps ≡ q ∷ in_turn k size (held + m) gs (between 1 (length ps) ps)
+    unfolding length_for
     putter_turn t = rw (putter_first k size held gs ps (getter_test ∙ not) (putter_test ∙ t), theirs, first_putter, between_to_end ps 1 (length ps) (omega arith))
 
     -- If neither can go, that is all

@@ -13,7 +13,6 @@ ghost use Rattle.answers.specs.Answers.{answer, step};
 ghost use Rattle.rings.specs.Serving.{
   asked,
   lengths_of,
-  length_for,
   to_come,
   entered,
   at_ring,
@@ -90,17 +89,6 @@ fn lengths_of(t: Tables) -> [u8; 32]
     t.processes.map(|process| asked_in(process.place))
 }
 
-// The length of process p.
-#[tactic(auto, unfolding(crate::specs::Serving::length_for, tables::specs::Access::numbered))]
-fn length_for(lengths: &[u8], p: u8) -> u8
-    ensures { result ≡ length_for lengths.now p }
-{
-    if p == 0 {
-        return 0;
-    }
-    lengths.get(usize::from(p) - 1).copied().unwrap_or(0)
-}
-
 // The head of a line, or nobody: 0, as behind the lines that the tables give.
 fn head(line: &[u8]) -> u8
     ensures { result ≡ first line.now }
@@ -139,14 +127,14 @@ impl<'a> Iterator for Turns<'a> {
     // If the head getter wants no more than is held, it is served; if not, the head putter goes in when there is room.
     fn next(&mut self) -> Option<u8> {
         let getter = head(self.getters);
-        let wants = length_for(self.lengths, getter);
+        let wants = tables::numbered(self.lengths, getter, 0);
         if getter_goes(getter, wants, self.held) {
             self.getters = &self.getters[1..];
             self.held -= u16::from(wants);
             return Some(getter);
         }
         let putter = head(self.putters);
-        let brings = length_for(self.lengths, putter);
+        let brings = tables::numbered(self.lengths, putter, 0);
         if putter_goes(putter, brings, self.held, self.size) {
             self.putters = &self.putters[1..];
             self.held += u16::from(brings);
@@ -165,11 +153,11 @@ fn entered(t: Tables, b: u8, parcel: Parcel, l: u8) -> Tables
 }
 
 // Does p, whose entry has this place, stand in a line of a ring?
-#[tactic(auto, unfolding(crate::specs::Serving::at_ring, tables::specs::Lines::is_number))]
+#[tactic(auto, unfolding(crate::specs::Serving::at_ring))]
 fn at_ring(p: u8, place: Place) -> bool
     ensures { result ≡ cond (is_number p) (at_ring place) false }
 {
-    (1..=32).contains(&p) && matches!(place, Place::Getting(..) | Place::Putting(..))
+    tables::is_number(p) && matches!(place, Place::Getting(..) | Place::Putting(..))
 }
 
 // What the service of one in this place leaves of the ring and of its parcel: a getter's bytes lie in its parcel, a putter's
@@ -263,7 +251,7 @@ fn way_past<F: Fn(Ring) -> bool>(t: Tables, n: u8, l: u8, line: Line, suffices: 
     if !allowed(l, ring.size) {
         return Way::Closed;
     }
-    if tables::head_of(t, line) == 0 && suffices(ring) {
+    if tables::head_of(t, line).is_none() && suffices(ring) {
         return Way::AtOnce(b);
     }
     Way::Blocked

@@ -2,7 +2,7 @@
 use Rattle.std.proofs.Common.{rules}
 use Rattle.rings.specs.Rings.{way_past, way_to_kind, way_of, at_once}
 use Rattle.rings.proofs.way_past.Goals as goal
-use Rattle.rings.proofs.way_past.Goals.{else-head_of-eq0-via-then-head_of-eq0+else-suffices, else-head_of-eq0-via-else-head_of-eq0}
+use Rattle.rings.proofs.way_past.Goals.{else-is_none-via-then-is_none+else-suffices, else-is_none-via-else-is_none}
 
 pub returns-in_default : goal.returns-in_default
 unfolding way_past way_to_kind
@@ -19,7 +19,7 @@ returns-then-suffices g c = λ enough computes. let its = computes _ _ c.suffice
 pub returns : goal.returns
 unfolding way_past way_to_kind way_of at_once
 returns g c = λ enough computes.
-    elim c.else-head_of-eq0.branch [
-      | else-head_of-eq0-via-then-head_of-eq0+else-suffices w ↦ let its = computes _ _ w.suffices.ensures in search rules
-      | else-head_of-eq0-via-else-head_of-eq0 w ↦ search rules
+    elim c.else-is_none.branch [
+      | else-is_none-via-then-is_none+else-suffices w ↦ let its = computes _ _ w.suffices.ensures in search rules
+      | else-is_none-via-else-is_none w ↦ search rules
     ]

@@ -6,7 +6,7 @@ use Rattle.rings.proofs.TurnsIterator.next.Goals as goal
 pub returns-then-getter_goes-clause-steps : goal.returns-then-getter_goes-clause-steps
 returns-then-getter_goes-clause-steps c =
     let s = c.args.self.now in
-    rw c.from.ensures (getter_turn s.lengths.now s.getters.now s.putters.now s.size s.held _ _ _ c.length_for-wants.ensures c.head-getter.ensures c.getter_goes.ensures c.if-getter_goes.true)
+    rw c.from.ensures (getter_turn s.lengths.now s.getters.now s.putters.now s.size s.held _ _ _ c.numbered-wants.ensures c.head-getter.ensures c.getter_goes.ensures c.if-getter_goes.true)
 
 pub returns-then-getter_goes-clause-goes : goal.returns-then-getter_goes-clause-goes
 returns-then-getter_goes-clause-goes c =
@@ -16,7 +16,7 @@ returns-then-getter_goes-clause-goes c =
 pub returns-then-putter_goes-clause-steps : goal.returns-then-putter_goes-clause-steps
 returns-then-putter_goes-clause-steps c =
     let s = c.args.self.now in
-    rw c.from-then-putter_goes.ensures (putter_turn s.lengths.now s.getters.now s.putters.now s.size s.held _ _ _ c.length_for-wants.ensures c.head-getter.ensures c.getter_goes.ensures _ _ _ c.if-getter_goes.false c.length_for-brings.ensures c.head-putter.ensures c.putter_goes.ensures c.if-putter_goes.true)
+    rw c.from-then-putter_goes.ensures (putter_turn s.lengths.now s.getters.now s.putters.now s.size s.held _ _ _ c.numbered-wants.ensures c.head-getter.ensures c.getter_goes.ensures _ _ _ c.if-getter_goes.false c.numbered-brings.ensures c.head-putter.ensures c.putter_goes.ensures c.if-putter_goes.true)
 
 pub returns-then-putter_goes-clause-goes : goal.returns-then-putter_goes-clause-goes
 returns-then-putter_goes-clause-goes c =
@@ -26,5 +26,5 @@ returns-then-putter_goes-clause-goes c =
 pub returns-clause-steps : goal.returns-clause-steps
 returns-clause-steps c =
     let s = c.args.self.now in
-    let none = nobody_left s.lengths.now s.getters.now s.putters.now s.size s.held _ _ _ c.length_for-wants.ensures c.head-getter.ensures c.getter_goes.ensures _ _ _ c.if-getter_goes.false c.length_for-brings.ensures c.head-putter.ensures c.putter_goes.ensures c.if-putter_goes.false in
+    let none = nobody_left s.lengths.now s.getters.now s.putters.now s.size s.held _ _ _ c.numbered-wants.ensures c.head-getter.ensures c.getter_goes.ensures _ _ _ c.if-getter_goes.false c.numbered-brings.ensures c.head-putter.ensures c.putter_goes.ensures c.if-putter_goes.false in
     (none, none)
