@@ -125,6 +125,7 @@ impl<'a> Iterator for Turns<'a> {
     ghost remaining = { item_count to_come };
 
     // If the head getter wants no more than is held, it is served; if not, the head putter goes in when there is room.
+    #[tactic(auto, using(crate::proofs::Laws::getter_turn, crate::proofs::Laws::putter_turn, crate::proofs::Laws::nobody_left))]
     fn next(&mut self) -> Option<u8> {
         let getter = head(self.getters);
         let wants = tables::numbered(self.lengths, getter, 0);
@@ -209,6 +210,7 @@ fn served_in_turn(mut t: Tables, n: u8, b: u8, answer: Answer) -> Step
 }
 
 // The same, where nobody in the lines is to be served.
+#[tactic(auto, using(crate::proofs::Laws::none_waiting))]
 fn served(t: Tables, n: u8, b: u8, answer: Answer) -> Step
     ensures { result ≡ step (served n b t) answer }
 {
@@ -240,6 +242,7 @@ fn allowed(l: u8, size: u16) -> bool
 }
 
 // The way of l bytes at structure n: past those in this line, where the ring has what suffices.
+#[tactic(auto, unfolding(crate::specs::Rings::way_past, crate::specs::Rings::way_to_kind, crate::specs::Rings::way_of, crate::specs::Rings::at_once))]
 fn way_past<F: Fn(Ring) -> bool>(t: Tables, n: u8, l: u8, line: Line, suffices: F) -> Way
     requires { F.IsAlwaysCallable suffices }
     ensures { (enough : Ring → Bool) → ((ring : Ring) (x : Bool) → F.post suffices ring x → x ≡ enough ring) → result ≡ way_past line enough n l t }
