@@ -6,7 +6,6 @@ ghost use Rattle.std.specs.Iterator.{YieldsFirst, item_count};
 ghost use Rattle.arrivals.specs.Order.{first};
 ghost use Rattle.bay.specs.Bay.{parcel_of};
 ghost use Rattle.bay.specs.declared.Ring.{Ring};
-ghost use Rattle.tables.specs.Access.{ring_in};
 ghost use Rattle.tables.specs.Lines.{is_number};
 ghost use Rattle.answers.specs.declared.Outcome.TheVariants.{Done};
 ghost use Rattle.answers.specs.Answers.{answer, step};
