@@ -1,117 +1,72 @@
--- What the loops and the plan write, one step on; a turn of the serving; and the two forms of a transfer.
-use Prim.Native.Nat.{ℕ, ◌+◌, ◌-◌, ◌≤◌, ◌<◌}
+-- An array's map; a turn of the serving; where nobody waits; the ways past a line; the lines served one after the other.
+use Prim.Native.Nat.{ℕ, ◌+◌, ◌-◌, ◌<◌}
 use mathlib.Core.Path.{◌≡◌, refl, sym, ◌∙◌}
-use mathlib.Core.Bool.{Bool, true, false, cond, ◌&&◌, true≢false}
-use mathlib.Core.List.{List, [], ◌∷◌, ◌++◌, map, append-nil, append_assoc}
+use mathlib.Core.Bool.{Bool, true, false, cond, true≢false}
+use mathlib.Core.List.{List, [], ◌∷◌, map}
 use lib.Dec.{eqb, leb}
 use Rattle.basics.specs.Tests.{test, holds, fails}
 use Rattle.arrivals.specs.Order.{first, keep}
-use Rattle.std.specs.Prelude.{Some}
 use Rattle.bay.specs.declared.Parcel.{Parcel}
-use Rattle.bay.specs.declared.Moved.{Moved}
 use Rattle.bay.specs.declared.Ring.{Ring}
-use Rattle.bay.specs.Bay.{parcel_of, empty_parcel, get_of, reset_of, zeros}
 use Rattle.tables.specs.declared.Tables.{Tables}
 use Rattle.tables.specs.declared.Place.{Place}
-use Rattle.tables.specs.declared.Place.TheVariants.{Nowhere, Running, Ready, Parked, Waiting, Getting, Putting, Asleep}
+use Rattle.tables.specs.declared.Kind.{Kind}
+use Rattle.tables.specs.declared.Kind.TheVariants as kinds
 use Rattle.tables.specs.declared.Line.TheVariants.{Getters, Putters}
-use Rattle.tables.specs.Access.{numbered, nobody, process_of, ring_in, with_process, with_ring, with_parcel}
-use Rattle.tables.specs.Lines.{stands, standing, line, waits_at, waiting_at, in_lines_of}
+use Rattle.tables.specs.Access.{numbered, nobody, process_of, structure_of, ring_in, with_process, with_parcel}
+use borrow.Author.Tests.{eqb-true}
+use Rattle.tables.specs.Numbers.{code, spot}
+use Rattle.tables.specs.Lines.{stands, standing, line, padded, waits_at, waiting_at, in_lines_of}
 use Rattle.ready.specs.Ready.{with_place, joins, runner_joins}
-use Rattle.rings.specs.Serving.{lengths_of, length_for, getter_goes, putter_goes, in_turn, service, services, turns, entered, served}
-use Rattle.rings.specs.Rings.{put_through, put_waits, got_from, got_through, reset_in}
-use Rattle.answers.specs.declared.Outcome.TheVariants.{Done, Waits}
-use Rattle.answers.specs.declared.Answer.{Answer}
-use Rattle.answers.specs.declared.Step.{Step}
-use Rattle.answers.specs.Answers.{answer, plain, step}
-use Rattle.rings.proofs.InTurn.{getter_first, putter_first, nobody_first}
+use Rattle.rings.specs.Serving.{lengths_of, length_for, getter_goes, putter_goes, in_turn, service, services, turns, served}
+use Rattle.rings.specs.Rings.{way_to_kind, way_past, way_into_ring, way_into_kind, way_in, way_out_of_ring, way_out_of_kind, way_out}
+use Rattle.rings.proofs.InTurn.{getter_first, putter_first, nobody_first, zeros_behind}
 use native.Mathlib.Omega.{arith}
-use native.Mathlib.Numerals.{add-one}
-use lib.ListN.{length, take, drop, set, get_or, length-map, get_or-map, drop_of_length-le, replicate, replicate-append-replicate}
-use lib.Seq.{take-suc, take-suc-set, take_all, drop-drop, drop-cons, get_or-take, length-take-le}
+use lib.ListN.{length, get_or}
+use Rattle.std.specs.List.{between}
+use Rattle.std.proofs.lemmas.Slice.{between_to_end}
+use Rattle.std.proofs.lemmas.List.{same_lists, get_or-map, length-map}
+use Rattle.std.specs.Array.{IsMapOf}
+use denote.Param.Members.{Mut, Called}
 
--- Who is written behind the first k is the next of the first k + 1
-pub one_chosen : (l : List ℕ) (k j x : ℕ) → j ≡ k + 1 → k < length l → take j (set l k x) ≡ take k l ++ (x ∷ [])
-one_chosen l k j x e h = rw (e, add-one) (take-suc-set l k x h)
+-- ---- an array's map is the list's
 
--- One more length is written
-pub one_length : {A : Type 0} (f : A → ℕ) (ps : List A) (l : List ℕ) (i v : ℕ) (d : A) → length l ≡ length ps → i < length ps → v ≡ f (get_or ps i d) → take i l ≡ take i (map f ps) → take (i + 1) (set l i v) ≡ take (i + 1) (map f ps)
-one_length f ps l i v d e h w k =
-    let fits : i < length (map f ps) = rw (length-map ps f) h in
-    rw (add-one, take-suc-set l i v (omega arith), take-suc (map f ps) i (f d) fits, k, w, get_or-map f ps i d)
+module _ {F A B : Type 0} (g : Mut F (A × Unit {0}) B) (f : F) (h : A → B) (xs : List A) (ys : List B) (n : ℕ) (d : A)
+    (long : length xs ≡ n) (is : IsMapOf g f xs ys n) (calls : (p : F) (x : A) (y : B) (q : F) → Called g p (x, tt) y q → y ≡ h x) where
+  mapped_at : (k : ℕ) (e : B) → k < length ys → get_or ys k e ≡ get_or (map h xs) k e
+  mapped_at k e within =
+      let call = is.at k d e (rw is.long at within) in
+      calls call.0 _ _ call.1 call.2 ∙ sym (get_or-map h xs k d e (omega (arith, is.long)))
 
--- All are written
-pub all_lengths : {A : Type 0} (f : A → ℕ) (ps : List A) (l : List ℕ) (i : ℕ) → length l ≡ length ps → length ps ≤ i → take i l ≡ take i (map f ps) → l ≡ map f ps
-all_lengths f ps l i e h k = sym (take_all i l (omega arith)) ∙ k ∙ take_all i (map f ps) (rw (length-map ps f) h)
+  pub mapped : ys ≡ map h xs
+  mapped = same_lists ys (map h xs) (is.long ∙ sym long ∙ sym (length-map xs h)) mapped_at
 
 -- ---- a turn of the serving
 
-module _ (k gs ps : List ℕ) (size held g q p l : ℕ) (b : Bool) (its : l ≡ length_for k p) where
+module _ (k gs ps : List ℕ) (size held p l : ℕ) (b : Bool) (its : l ≡ numbered k p 0) (head : p ≡ first gs) (goes : b ≡ cond (eqb p 0) false (leb l held)) where
   -- The code's test is the rule's
-  pub getter_test : p ≡ first (drop g gs) → b ≡ cond (eqb p 0) false (leb l held) → getter_goes k held (drop g gs) ≡ b
-  unfolding getter_goes
-  getter_test e w = rw (w, its, e)
+  getter_test : getter_goes k held gs ≡ b
+  unfolding getter_goes length_for
+  getter_test = rw (goes, its, head)
 
-  pub putter_test : p ≡ first (drop q ps) → b ≡ cond (eqb p 0) false (leb (held + l) size) → putter_goes k size held (drop q ps) ≡ b
-  unfolding putter_goes
-  putter_test e w = rw (w, its, e)
+  -- The head getter is served, and then whoever comes next
+  pub getter_turn : b ≡ true → in_turn k size held gs ps ≡ p ∷ in_turn k size (held - l) (between 1 (length gs) gs) ps
+  unfolding length_for
+  getter_turn t = rw (getter_first k size held gs ps (getter_test ∙ t), its, head, between_to_end gs 1 (length gs) (omega arith))
 
-  -- The rest is served after the one who was chosen
-  module _ (r c d : List ℕ) (h i j : ℕ) (more : d ≡ c ++ (p ∷ [])) (next : r ≡ d ++ in_turn k size h (drop i gs) (drop j ps)) where
-    pub getter_turn : p ≡ first (drop g gs) → getter_goes k held (drop g gs) ≡ true → h ≡ held - l → i ≡ g + 1 → j ≡ q
-        → r ≡ c ++ in_turn k size held (drop g gs) (drop q ps)
-    getter_turn e w f u v = next ∙ rw (more, f, u, v, getter_first k size held (drop g gs) (drop q ps) w, drop-drop 1 g gs, ← e, ← its) (append_assoc c (p ∷ []) _)
+  -- If not, it is the head putter's turn
+  module _ (q m : ℕ) (c : Bool) (not : b ≡ false) (theirs : m ≡ numbered k q 0) (first_putter : q ≡ first ps) (fits : c ≡ cond (eqb q 0) false (leb (held + m) size)) where
+    putter_test : putter_goes k size held ps ≡ c
+    unfolding putter_goes length_for
+    putter_test = rw (fits, theirs, first_putter)
 
-    pub putter_turn : p ≡ first (drop q ps) → getter_goes k held (drop g gs) ≡ false → putter_goes k size held (drop q ps) ≡ true → h ≡ held + l → i ≡ g → j ≡ q + 1
-        → r ≡ c ++ in_turn k size held (drop g gs) (drop q ps)
-    putter_turn e n w f u v = next ∙ rw (more, f, u, v, putter_first k size held (drop g gs) (drop q ps) n w, drop-drop 1 q ps, ← e, ← its) (append_assoc c (p ∷ []) _)
+    pub putter_turn : c ≡ true → in_turn k size held gs ps ≡ q ∷ in_turn k size (held + m) gs (between 1 (length ps) ps)
+    unfolding length_for
+    putter_turn t = rw (putter_first k size held gs ps (getter_test ∙ not) (putter_test ∙ t), theirs, first_putter, between_to_end ps 1 (length ps) (omega arith))
 
--- Nobody is left to be served
-pub nobody_left : (k gs ps c : List ℕ) (size held : ℕ) → getter_goes k held gs ≡ false → putter_goes k size held ps ≡ false → c ≡ c ++ in_turn k size held gs ps
-nobody_left k gs ps c size held g p = rw (nobody_first k size held gs ps g p) (sym (append-nil c))
-
--- ---- the chosen ones are served
-
--- One more is served
-pub one_more : (b : ℕ) (l : List ℕ) (n i x : ℕ) (t u : Tables) → n ≤ length l → i < n → x ≡ get_or l i 0 → u ≡ service b x t → services b (drop (i + 1) (take n l)) u ≡ services b (drop i (take n l)) t
-unfolding services
-one_more b l n i x t u k h e w =
-    let long : i < length (take n l) = rw (length-take-le n l k) h in
-    rw (w, e, add-one, drop-cons (take n l) i 0 long, get_or-take n l i 0 h)
-
--- Nobody is left
-pub no_more : (b : ℕ) (l : List ℕ) (n i : ℕ) (t : Tables) → n ≤ length l → n ≤ i → services b (drop i (take n l)) t ≡ t
-unfolding services
-no_more b l n i t k h =
-    let long : length (take n l) ≤ i = rw (length-take-le n l k) h in
-    rw (drop_of_length-le (take n l) {i = i} long)
-
--- ---- a parcel of the first l bytes
-
--- Nothing is cleared yet
-pub none_cleared : (b : List ℕ) (l : ℕ) → take l b ≡ take l b ++ replicate (l - l) 0
-none_cleared b l = let none : l - l ≡ 0 = omega arith in rw none (sym (append-nil (take l b)))
-
--- One more byte is cleared
-pub one_cleared : (kept front : List ℕ) (l i : ℕ) → l ≤ i → i < length kept → take i kept ≡ front ++ replicate (i - l) 0
-    → take (i + 1) (set kept i 0) ≡ front ++ replicate (i + 1 - l) 0
-one_cleared kept front l i h k e =
-    let more : i + 1 - l ≡ (i - l) + 1 = omega arith in
-    rw (more, ← replicate-append-replicate {A = ℕ} (i - l) 1 0, add-one, take-suc-set kept i 0 k, e) (append_assoc front (replicate (i - l) 0) (0 ∷ []))
-
--- All are
-pub all_cleared : (b kept : List ℕ) (l i : ℕ) → l ≤ 64 → i ≡ 64 → length b ≡ 64 → length kept ≡ 64 → take i kept ≡ take l b ++ replicate (i - l) 0
-    → record { bytes = kept; holds = Some l } ≡ parcel_of (take l b)
-unfolding parcel_of zeros
-all_cleared b kept l i h u long whole e =
-    let front : length (take l b) ≡ l = length-take-le l b (omega arith) in
-    let kept_is : kept ≡ take l b ++ replicate (64 - l) 0 = sym (take_all 64 kept (omega arith)) ∙ rw u at e in
-    rw (front, kept_is)
-
--- Of 64 bytes or more the parcel has all
-pub all_kept : (b : List ℕ) (l : ℕ) → 64 ≤ l → length b ≡ 64 → record { bytes = b; holds = Some 64 } ≡ parcel_of (take l b)
-unfolding parcel_of zeros
-all_kept b l h long = let whole : length b ≤ l = omega arith in rw (take_all l b whole, long, append-nil)
+    -- If neither can go, that is all
+    pub nobody_left : c ≡ false → in_turn k size held gs ps ≡ []
+    nobody_left t = nobody_first k size held gs ps (getter_test ∙ not) (putter_test ∙ t)
 
 -- ---- nobody stands in the lines of a ring
 
@@ -128,71 +83,59 @@ none_kept f g narrower (x ∷ l) h =
           ]
     ]
 
--- A getter and a putter stand in the lines of their ring
-getter_waits : (n : ℕ) (place : Place) → stands (Getters n) place ≡ true → waits_at n place ≡ true
-unfolding stands waits_at
-getter_waits n Nowhere h = absurd (true≢false (sym h))
-getter_waits n Running h = absurd (true≢false (sym h))
-getter_waits n Ready h = absurd (true≢false (sym h))
-getter_waits n Parked h = absurd (true≢false (sym h))
-getter_waits n (Waiting m) h = absurd (true≢false (sym h))
-getter_waits n (Getting m l) h = h
-getter_waits n (Putting m l) h = absurd (true≢false (sym h))
-getter_waits n (Asleep k) h = absurd (true≢false (sym h))
-
-putter_waits : (n : ℕ) (place : Place) → stands (Putters n) place ≡ true → waits_at n place ≡ true
-unfolding stands waits_at
-putter_waits n Nowhere h = absurd (true≢false (sym h))
-putter_waits n Running h = absurd (true≢false (sym h))
-putter_waits n Ready h = absurd (true≢false (sym h))
-putter_waits n Parked h = absurd (true≢false (sym h))
-putter_waits n (Waiting m) h = absurd (true≢false (sym h))
-putter_waits n (Getting m l) h = absurd (true≢false (sym h))
-putter_waits n (Putting m l) h = h
-putter_waits n (Asleep k) h = absurd (true≢false (sym h))
+-- Who stands in a line of structure n waits at it: at codes 4 to 6
+line_waits : (k n : ℕ) (place : Place) → leb 4 k ≡ true → leb k 6 ≡ true → cond (eqb (code place) k) (eqb (spot place) n) false ≡ true → waits_at n place ≡ true
+unfolding waits_at
+line_waits k n place low high h =
+    elim (test (eqb (code place) k)) [
+      | holds e ↦ rw (eqb-true (code place) k e, low, high) (rw e at h)
+      | fails e ↦ absurd (true≢false (sym (rw e at h)))
+    ]
 
 -- Then nobody is served
 none_turns : (n b : ℕ) (t : Tables) → in_lines_of n t ≡ 0 → turns n b t ≡ []
-unfolding turns line in_lines_of getter_goes putter_goes
+unfolding turns line in_lines_of stands getter_goes putter_goes
 none_turns n b t h =
     rw (
-      none_kept (standing (Getters n) t.processes) (waiting_at n t.processes) (λ x. getter_waits n (numbered t.processes x nobody).place) t.order h,
-      none_kept (standing (Putters n) t.processes) (waiting_at n t.processes) (λ x. putter_waits n (numbered t.processes x nobody).place) t.order h,
+      none_kept (standing (Getters n) t.processes) (waiting_at n t.processes) (λ x. line_waits 5 n (numbered t.processes x nobody).place refl refl) t.order h,
+      none_kept (standing (Putters n) t.processes) (waiting_at n t.processes) (λ x. line_waits 6 n (numbered t.processes x nobody).place refl refl) t.order h,
     )
     (nobody_first (lengths_of t) (ring_in t b).size (ring_in t b).held [] [] refl refl)
 
-none_waiting : (n b : ℕ) (t : Tables) → in_lines_of n t ≡ 0 → t ≡ served n b t
+pub none_waiting : (n b : ℕ) (t : Tables) → in_lines_of n t ≡ 0 → t ≡ served n b t
 unfolding served services
 none_waiting n b t h = rw (none_turns n b t h)
 
--- The same of tables u that have the order and the processes of t
-pub none_waits : (n b : ℕ) (t u : Tables) (k : ℕ) → u.order ≡ t.order → u.processes ≡ t.processes → k ≡ in_lines_of n t → k ≡ 0 → u ≡ served n b u
-unfolding in_lines_of
-none_waits n b t u k o p e z = none_waiting n b u (rw (o, p) (sym e ∙ z))
+-- ---- the way past a line
 
--- ---- what a transfer leaves, once the lines are served
+into_kind : (n l : ℕ) (kind : Kind) (t : Tables) → way_to_kind (Putters n) (λ r. leb (r.held + l) r.size) l kind t ≡ way_into_kind n l kind t
+unfolding way_to_kind way_into_kind way_into_ring
+into_kind n l kinds.Free t = refl
+into_kind n l (kinds.Binary v) t = refl
+into_kind n l (kinds.Counting v) t = refl
+into_kind n l (kinds.Ring b) t = refl
 
--- The step of a service, where the plan's are those of the rule, is that of the lines served
-pub step_served : (n b : ℕ) (l : List ℕ) (u : Tables) (a d : Answer) (r : Step) → r ≡ step (services b l u) a → l ≡ turns n b u → a ≡ d → r ≡ step (served n b u) d
-unfolding served
-step_served n b l u a d r e f g = e ∙ rw (f, g)
+-- The way in is past the putters, where there is room
+pub past_putters : (n l : ℕ) (t : Tables) → way_past (Putters n) (λ r. leb (r.held + l) r.size) n l t ≡ way_in n l t
+unfolding way_past way_in
+past_putters n l t = into_kind n l (structure_of t n).kind t
 
-pub put_done : (n b l : ℕ) (bytes : List ℕ) (t u : Tables) (x : Parcel) (r : Step) → x ≡ parcel_of (take l bytes) → u ≡ entered b x l t → r ≡ step (served n b u) (plain Done)
-    → r ≡ put_through n b l bytes t
-unfolding put_through
-put_done n b l bytes t u x r e f k = rw (k, f, e)
+out_of_kind : (n l : ℕ) (kind : Kind) (t : Tables) → way_to_kind (Getters n) (λ r. leb l r.held) l kind t ≡ way_out_of_kind n l kind t
+unfolding way_to_kind way_out_of_kind way_out_of_ring
+out_of_kind n l kinds.Free t = refl
+out_of_kind n l (kinds.Binary v) t = refl
+out_of_kind n l (kinds.Counting v) t = refl
+out_of_kind n l (kinds.Ring b) t = refl
 
-pub get_done : (n b l : ℕ) (t u : Tables) (g : Moved) (r : Step) → g ≡ get_of (ring_in t b) empty_parcel 0 l → u ≡ with_ring t b g.ring
-    → r ≡ step (served n b u) (answer Done 0 l 0 g.parcel.bytes) → r ≡ got_through n b l t
-unfolding got_through got_from
-get_done n b l t u g r e f h = rw (h, f, e)
+-- The way out is past the getters, where so many are held
+pub past_getters : (n l : ℕ) (t : Tables) → way_past (Getters n) (λ r. leb l r.held) n l t ≡ way_out n l t
+unfolding way_past way_out
+past_getters n l t = out_of_kind n l (structure_of t n).kind t
 
-pub reset_done : (n b : ℕ) (t u : Tables) (x y : Ring) (r : Step) → x ≡ ring_in t b → y ≡ reset_of x → u ≡ with_ring t b y → r ≡ step (served n b u) (plain Done) → r ≡ reset_in n b t
-unfolding reset_in
-reset_done n b t u x y r e f g h = rw (h, g, f, e)
+-- ---- who waits
 
 -- The runner's parcel may be filled once it has joined
-parcel_joins : (place : Place) (x : Parcel) (t : Tables) → with_parcel (runner_joins place t) t.running x ≡ runner_joins place (with_parcel t t.running x)
+pub parcel_joins : (place : Place) (x : Parcel) (t : Tables) → with_parcel (runner_joins place t) t.running x ≡ runner_joins place (with_parcel t t.running x)
 unfolding runner_joins joins with_place with_process with_parcel process_of
 parcel_joins place x t =
     elim (test (eqb t.running 0)) [
@@ -200,26 +143,25 @@ parcel_joins place x t =
       | fails e ↦ rw e
     ]
 
-pub put_joined : (n l : ℕ) (bytes : List ℕ) (t u s : Tables) (x : Parcel) (r : Step) → x ≡ parcel_of (take l bytes) → u ≡ runner_joins (Putting n l) t → s ≡ with_parcel u t.running x → r ≡ step s (plain Waits)
-    → r ≡ put_waits n l bytes t
-unfolding put_waits
-put_joined n l bytes t u s x r e f h k = rw (k, h, f, e, parcel_joins (Putting n l) (parcel_of (take l bytes)) t)
+-- ---- the lines are served
 
--- ---- the form that waits, and the form that does not
+-- The numbers that are read are those of the rule: zeros behind a line are nobody
+pub turns_read : (n b : ℕ) (t : Tables) (ring : Ring) (k gs ps : List ℕ) → ring ≡ ring_in t b → k ≡ lengths_of t → gs ≡ padded (line (Getters n) t) → ps ≡ padded (line (Putters n) t)
+    → in_turn k ring.size ring.held gs ps ≡ turns n b t
+unfolding turns padded
+turns_read n b t ring k gs ps its known getters putters = rw (its, known, getters, putters, zeros_behind)
 
--- Where both do the same, that is done
-pub either_form : {A : Type 0} (waits : Bool) (a : A) → a ≡ cond waits a a
-either_form true a = refl
-either_form false a = refl
+-- Nobody has been served yet
+pub none_yet : (n b : ℕ) (t : Tables) (l : List ℕ) → l ≡ turns n b t → services b l t ≡ served n b t
+unfolding served
+none_yet n b t l e = rw e
 
--- The form that waits, with nobody to wait
-pub nobody_waits : {A : Type 0} (waits nobody : Bool) (a b c : A) → (waits && nobody) ≡ true → a ≡ cond waits (cond nobody a b) c
-nobody_waits true true a b c e = refl
-nobody_waits true false a b c e = absurd (true≢false (sym e))
-nobody_waits false nobody a b c e = absurd (true≢false (sym e))
+-- One more is served
+pub one_more : (b p : ℕ) (l more : List ℕ) (t u : Tables) → l ≡ p ∷ more → u ≡ service b p t → services b more u ≡ services b l t
+unfolding services
+one_more b p l more t u e w = rw (e, w)
 
--- Otherwise, where both do the same, that is done
-pub either_way : {A : Type 0} (waits nobody : Bool) (a b : A) → (waits && nobody) ≡ false → b ≡ cond waits (cond nobody a b) b
-either_way true true a b e = absurd (true≢false e)
-either_way true false a b e = refl
-either_way false nobody a b e = refl
+-- Nobody is left
+pub no_more : (b : ℕ) (l : List ℕ) (t : Tables) → l ≡ [] → services b l t ≡ t
+unfolding services
+no_more b l t e = rw e

@@ -1,34 +1,30 @@
 // Rings: put and get, their conditional forms, reset, collect, and the serving of the lines.
 #![tactic(auto)]
 
-ghost use Rattle.std.specs.Prelude.{◌≡◌, cond, false, [], ◌∷◌, ◌++◌, ◌+◌, ◌-◌, ◌≤◌, ◌<◌, eqb, leb, length, take, drop};
+ghost use Rattle.std.specs.Prelude.{◌≡◌, Bool, cond, false, ◌+◌, eqb, leb, take};
+ghost use Rattle.std.specs.Iterator.{YieldsFirst, item_count};
 ghost use Rattle.arrivals.specs.Order.{first};
 ghost use Rattle.bay.specs.Bay.{parcel_of};
-ghost use Rattle.tables.specs.Access.{ring_in};
+ghost use Rattle.bay.specs.declared.Ring.{Ring};
 ghost use Rattle.tables.specs.Lines.{is_number};
-ghost use Rattle.answers.specs.Answers.{plain, step};
+ghost use Rattle.answers.specs.declared.Outcome.TheVariants.{Done};
+ghost use Rattle.answers.specs.Answers.{answer, step};
 ghost use Rattle.rings.specs.Serving.{
   asked,
   lengths_of,
-  length_for,
-  getter_goes,
-  chosen,
   to_come,
-  turns,
   entered,
   at_ring,
   exchanged,
-  services,
+  served,
 };
 ghost use Rattle.rings.specs.Rings.{
   allowed,
-  at_once,
-  way_of,
-  way_into_ring,
+  way_past,
   way_in,
-  way_out_of_ring,
   way_out,
   put_through,
+  waits,
   put_waits,
   put_in,
   conditionally_put,
@@ -46,17 +42,20 @@ use answers::{Answer, Outcome, Step};
 use bay::{Moved, Parcel, Ring};
 use tables::{Kind, Line, Place, Tables};
 
-// Who is to be served: how many bytes are held then, how far each line has been gone through, and who it is, in turn.
-#[derive(Clone, Copy)]
-struct Plan {
+// Who of a ring's two lines is served, in turn: the ring's size, how many bytes are held by then, the lengths of all
+// processes, and who is left of each line.
+#[derive(Drop)]
+struct Turns<'a> {
+    size: u16,
     held: u16,
-    getter: u8,
-    putter: u8,
-    served: [u8; 64],
+    lengths: &'a [u8],
+    getters: &'a [u8],
+    putters: &'a [u8],
 }
 
 // What becomes of a transfer: no request could be accepted; it goes through at once, in this bay; the line, or the room or
-// the bytes, are in the way.
+// the bytes, are in the way. As a `Result` it would be no plainer: who is blocked may wait, and `put_in` and `got` would
+// have the same three arms.
 #[derive(Clone, Copy)]
 pub enum Way {
     Closed,
@@ -64,393 +63,233 @@ pub enum Way {
     Blocked,
 }
 
+// The two forms of a transfer: where the way is blocked the caller waits, or it is answered that nothing was performed.
+#[derive(Clone, Copy)]
+pub enum Form {
+    Waiting,
+    Conditional,
+}
+
 // The bytes that a process in this place wants or brings.
 pub fn asked_in(place: Place) -> u8
     ensures { result ≡ asked place }
 {
     match place {
-        Place::Nowhere => 0,
-        Place::Running => 0,
-        Place::Ready => 0,
-        Place::Parked => 0,
-        Place::Waiting(_) => 0,
-        Place::Getting(_, l) => l,
-        Place::Putting(_, l) => l,
-        Place::Asleep(_) => 0,
+        Place::Getting(_, l) | Place::Putting(_, l) => l,
+        _ => 0,
     }
 }
 
 // The lengths of all processes.
+#[tactic(auto, unfolding(crate::specs::Serving::lengths_of))]
 fn lengths_of(t: Tables) -> [u8; 32]
     ensures { result ≡ lengths_of t }
 {
-    let mut lengths = [0; 32];
-    let processes = t.processes;
-    let mut i = 0;
-    while i < 32 {
-        let process = processes[i];
-        let place = process.place;
-        lengths[i] = asked_in(place);
-        i += 1;
-    }
-    lengths
+    t.processes.map(|process| asked_in(process.place))
 }
 
-// The length of process p.
-fn length_for(lengths: &[u8; 32], p: u8) -> u8
-    requires { length lengths.now ≡ 32 }
-    ensures { result ≡ length_for lengths.now p }
+// The head of a line, or nobody: 0, as behind the lines that the tables give.
+fn head(line: &[u8]) -> u8
+    ensures { result ≡ first line.now }
 {
-    if p == 0 {
-        return 0;
-    }
-    if 32 < p {
-        return 0;
-    }
-    let i = (p - 1) as usize;
-    lengths[i]
-}
-
-// The one who stands so far behind the head of a line, or nobody.
-fn member(line: &[u8; 32], at: u8) -> u8
-    requires { length line.now ≡ 32 }
-    ensures { result ≡ first (drop at line.now) }
-{
-    if 32 <= at {
-        return 0;
-    }
-    let i = at as usize;
-    line[i]
+    line.first().copied().unwrap_or(0)
 }
 
 // Can p, the head getter, be served: does it want no more than is held?
 pub fn getter_goes(p: u8, l: u8, held: u16) -> bool
     ensures { result ≡ cond (eqb p 0) false (leb l held) }
 {
-    if p == 0 {
-        return false;
-    }
-    l as u16 <= held
+    p != 0 && u16::from(l) <= held
+}
+
+// Is there room for l bytes more?
+fn has_room(l: u8, held: u16, size: u16) -> bool
+    ensures { result ≡ leb (held + l) size }
+{
+    usize::from(held) + usize::from(l) <= usize::from(size)
 }
 
 // Can p, the head putter, be served: is there room for what it brings?
 pub fn putter_goes(p: u8, l: u8, held: u16, size: u16) -> bool
     ensures { result ≡ cond (eqb p 0) false (leb (held + l) size) }
 {
-    if p == 0 {
-        return false;
+    p != 0 && has_room(l, held, size)
+}
+
+impl<'a> Iterator for Turns<'a> {
+    type Item = u8;
+
+    ghost next_gives = { YieldsFirst to_come };
+
+    ghost remaining = { item_count to_come };
+
+    // If the head getter wants no more than is held, it is served; if not, the head putter goes in when there is room.
+    #[tactic(auto, using(crate::proofs::Laws::getter_turn, crate::proofs::Laws::putter_turn, crate::proofs::Laws::nobody_left))]
+    fn next(&mut self) -> Option<u8> {
+        let getter = head(self.getters);
+        let wants = tables::numbered(self.lengths, getter, 0);
+        if getter_goes(getter, wants, self.held) {
+            self.getters = &self.getters[1..];
+            self.held -= u16::from(wants);
+            return Some(getter);
+        }
+        let putter = head(self.putters);
+        let brings = tables::numbered(self.lengths, putter, 0);
+        if putter_goes(putter, brings, self.held, self.size) {
+            self.putters = &self.putters[1..];
+            self.held += u16::from(brings);
+            return Some(putter);
+        }
+        None
     }
-    held as usize + l as usize <= size as usize
-}
-
-// The plan with getter p chosen, which takes l bytes.
-fn getter_chosen(plan: Plan, p: u8, l: u8) -> Plan
-    requires { (plan.getter < 32) × (plan.putter ≤ 32) × (l ≤ plan.held) }
-    ensures { (result.getter ≤ 32) × (result.held ≡ plan.held - l) × (result.getter ≡ plan.getter + 1) × (result.putter ≡ plan.putter) × (chosen result ≡ chosen plan ++ (p ∷ [])) }
-{
-    let at = plan.getter as usize + plan.putter as usize;
-    let mut next = plan;
-    next.served[at] = p;
-    next.held = plan.held - l as u16;
-    next.getter = plan.getter + 1;
-    next
-}
-
-// The plan with putter p chosen, which brings l bytes.
-fn putter_chosen(plan: Plan, p: u8, l: u8, size: u16) -> Plan
-    requires { (plan.getter ≤ 32) × (plan.putter < 32) × (plan.held + l ≤ size) }
-    ensures { (result.putter ≤ 32) × (result.held ≡ plan.held + l) × (result.getter ≡ plan.getter) × (result.putter ≡ plan.putter + 1) × (chosen result ≡ chosen plan ++ (p ∷ [])) }
-{
-    let at = plan.getter as usize + plan.putter as usize;
-    let mut next = plan;
-    next.served[at] = p;
-    next.held = plan.held + l as u16;
-    next.putter = plan.putter + 1;
-    next
-}
-
-// If the head getter wants no more than is held, it is served, and then again; if not, it is the head putter's turn.
-#[cycle(serve_getter_serve_putter)]
-fn serve_getter(
-    plan: Plan,
-    size: u16,
-    getters: &[u8; 32],
-    putters: &[u8; 32],
-    lengths: &[u8; 32],
-) -> Plan
-    requires { (length getters.now ≡ 32) × (length putters.now ≡ 32) × (length lengths.now ≡ 32) × (plan.getter ≤ 32) × (plan.putter ≤ 32) }
-    ensures { (result.getter ≤ 32) × (result.putter ≤ 32) × (chosen result ≡ chosen plan ++ to_come lengths.now size plan getters.now putters.now) }
-{
-    let p = member(getters, plan.getter);
-    let l = length_for(lengths, p);
-    if getter_goes(p, l, plan.held) {
-        return serve_getter(getter_chosen(plan, p, l), size, getters, putters, lengths);
-    }
-    serve_putter(plan, size, getters, putters, lengths)
-}
-
-// The head putter goes in when there is room, and then it is the head getter's turn again; if not, neither can be served.
-#[cycle(serve_getter_serve_putter)]
-fn serve_putter(
-    plan: Plan,
-    size: u16,
-    getters: &[u8; 32],
-    putters: &[u8; 32],
-    lengths: &[u8; 32],
-) -> Plan
-    requires getters_len { (length getters.now ≡ 32) × (length putters.now ≡ 32) × (length lengths.now ≡ 32) × (plan.getter ≤ 32) × (plan.putter ≤ 32) }
-    requires getters_value { getter_goes lengths.now plan.held (drop plan.getter getters.now) ≡ false }
-    ensures { (result.getter ≤ 32) × (result.putter ≤ 32) × (chosen result ≡ chosen plan ++ to_come lengths.now size plan getters.now putters.now) }
-{
-    let p = member(putters, plan.putter);
-    let l = length_for(lengths, p);
-    if putter_goes(p, l, plan.held, size) {
-        return serve_getter(
-            putter_chosen(plan, p, l, size),
-            size,
-            getters,
-            putters,
-            lengths,
-        );
-    }
-    plan
-}
-
-// Who is served at ring n, which lies in bay b.
-fn turns(t: Tables, n: u8, b: u8) -> Plan
-    ensures { (result.getter ≤ 32) × (result.putter ≤ 32) × (chosen result ≡ turns n b t) }
-{
-    let ring = tables::ring_in(t, b);
-    let getters = tables::line_of(t, Line::Getters(n));
-    let putters = tables::line_of(t, Line::Putters(n));
-    let lengths = lengths_of(t);
-    let plan = Plan {
-        held: ring.held,
-        getter: 0,
-        putter: 0,
-        served: [0; 64],
-    };
-    serve_getter(plan, ring.size, &getters, &putters, &lengths)
 }
 
 // So many bytes of the parcel enter the ring in bay b.
+#[tactic(auto, unfolding(crate::specs::Serving::entered))]
 fn entered(t: Tables, b: u8, parcel: Parcel, l: u8) -> Tables
     ensures { result ≡ entered b parcel l t }
 {
-    let ring = tables::ring_in(t, b);
-    tables::with_ring(t, b, bay::put(ring, parcel, 0, l))
+    tables::with_ring(t, b, bay::put(tables::ring_in(t, b), parcel, 0, l))
 }
 
 // Does p, whose entry has this place, stand in a line of a ring?
+#[tactic(auto, unfolding(crate::specs::Serving::at_ring))]
 fn at_ring(p: u8, place: Place) -> bool
     ensures { result ≡ cond (is_number p) (at_ring place) false }
 {
-    if p == 0 {
-        return false;
-    }
-    if 32 < p {
-        return false;
-    }
-    match place {
-        Place::Nowhere => false,
-        Place::Running => false,
-        Place::Ready => false,
-        Place::Parked => false,
-        Place::Waiting(_) => false,
-        Place::Getting(_, _) => true,
-        Place::Putting(_, _) => true,
-        Place::Asleep(_) => false,
-    }
+    tables::is_number(p) && matches!(place, Place::Getting(..) | Place::Putting(..))
 }
 
 // What the service of one in this place leaves of the ring and of its parcel: a getter's bytes lie in its parcel, a putter's
 // bytes enter the ring and its parcel is emptied.
+#[tactic(auto, unfolding(crate::specs::Serving::exchanged))]
 fn exchanged(ring: Ring, parcel: Parcel, place: Place) -> Moved
     ensures { result ≡ exchanged place ring parcel }
 {
     match place {
-        Place::Nowhere => Moved { ring, parcel },
-        Place::Running => Moved { ring, parcel },
-        Place::Ready => Moved { ring, parcel },
-        Place::Parked => Moved { ring, parcel },
-        Place::Waiting(_) => Moved { ring, parcel },
         Place::Getting(_, l) => bay::get(ring, parcel, 0, l),
-        Place::Putting(_, l) => {
-            let fuller = bay::put(ring, parcel, 0, l);
-            let empty = bay::empty_parcel();
-            Moved {
-                ring: fuller,
-                parcel: empty,
-            }
-        }
-        Place::Asleep(_) => Moved { ring, parcel },
+        Place::Putting(_, l) => Moved {
+            ring: bay::put(ring, parcel, 0, l),
+            parcel: bay::empty_parcel(),
+        },
+        _ => Moved { ring, parcel },
     }
 }
 
-// Those whom the plan has chosen are served, one after the other: transferred and released. The answer is the caller's: tables
-// that went to it alone would be copied once more.
-fn services(t: Tables, b: u8, plan: Plan, answer: Answer) -> Step
-    requires { (plan.getter ≤ 32) × (plan.putter ≤ 32) }
-    ensures { result ≡ step (services b (chosen plan) t) answer }
+// The lines of ring n, which lies in bay b, are served: one after the other is transferred and released. The answer is the
+// caller's: tables that went to it alone would be copied once more. Apart from `served`, whose calls mostly find nobody in
+// the lines and then take neither this function's time nor its stack.
+#[inline(never)]
+fn served_in_turn(mut t: Tables, n: u8, b: u8, answer: Answer) -> Step
+    ensures { result ≡ step (served n b t) answer }
 {
-    let count = plan.getter as usize + plan.putter as usize;
-    if count == 0 {
-        return Step { tables: t, answer };
-    }
     let mut ring = tables::ring_in(t, b);
-    let mut order = t.order;
-    let mut processes = t.processes;
-    let mut parcels = t.parcels;
-    let mut i: usize = 0;
-    while i < count {
-        let p = plan.served[i];
+    let turns = Turns {
+        size: ring.size,
+        held: ring.held,
+        lengths: &lengths_of(t),
+        getters: &tables::line_of(t, Line::Getters(n)),
+        putters: &tables::line_of(t, Line::Putters(n)),
+    };
+    for p in turns {
         let k = tables::entry_of(p);
-        let process = processes[k];
-        let place = process.place;
-        if at_ring(p, place) {
-            let parcel = parcels[k];
-            let moved = exchanged(ring, parcel, place);
-            let left = moved.ring;
-            ring = left;
-            let filled = moved.parcel;
-            parcels[k] = filled;
-            let after = ready::released_process(process);
-            processes[k] = after;
-            let last = arrivals::moved_last(order, p);
-            order = last;
+        let process = t.processes[k];
+        if at_ring(p, process.place) {
+            let moved = exchanged(ring, t.parcels[k], process.place);
+            ring = moved.ring;
+            t.parcels[k] = moved.parcel;
+            t.processes[k] = ready::released_process(process);
+            t.order = arrivals::moved_last(t.order, p);
         }
-        i += 1;
     }
-    let mut next = t;
-    next.order = order;
-    next.processes = processes;
-    next.parcels = parcels;
-    let last = tables::with_ring(next, b, ring);
     Step {
-        tables: last,
+        tables: tables::with_ring(t, b, ring),
         answer,
     }
 }
 
+// The same, where nobody in the lines is to be served.
+#[tactic(auto, using(crate::proofs::Laws::none_waiting))]
+fn served(t: Tables, n: u8, b: u8, answer: Answer) -> Step
+    ensures { result ≡ step (served n b t) answer }
+{
+    if tables::in_lines_of(t, n) == 0 {
+        return Step { tables: t, answer };
+    }
+    served_in_turn(t, n, b, answer)
+}
+
 // The parcel of the first l of these bytes.
-fn parcel_of(bytes: [u8; 64], l: u8) -> Parcel
+#[tactic(auto, unfolding(bay::specs::Bay::parcel_of, bay::specs::Bay::zeros))]
+fn parcel_of(mut bytes: [u8; 64], l: u8) -> Parcel
     ensures { result ≡ parcel_of (take l bytes) }
 {
-    if 64 <= l {
-        return Parcel {
-            bytes: bytes,
-            holds: Some(64),
-        };
-    }
-    let mut kept = bytes;
-    let mut i = l as usize;
-    while i < 64 {
-        kept[i] = 0;
-        i += 1;
-    }
+    let l = l.min(64);
+    bytes[usize::from(l)..].fill(0);
     Parcel {
-        bytes: kept,
+        bytes,
         holds: Some(l),
     }
 }
 
 // Is this a length that a transfer at a ring of this size may have?
+#[tactic(auto, unfolding(crate::specs::Rings::allowed))]
 fn allowed(l: u8, size: u16) -> bool
     ensures { result ≡ allowed l size }
 {
-    if l == 0 {
-        return false;
-    }
-    if 64 < l {
-        return false;
-    }
-    l as u16 <= size
+    (1..=64).contains(&l) && u16::from(l) <= size
 }
 
-// Does a transfer go through at once: nobody stands in its side's line, and the room or the bytes suffice?
-fn at_once(head: u8, enough: bool) -> bool
-    ensures { result ≡ at_once head enough }
+// The way of l bytes at structure n: past those in this line, where the ring has what suffices.
+#[tactic(auto, unfolding(crate::specs::Rings::way_past, crate::specs::Rings::way_to_kind, crate::specs::Rings::way_of, crate::specs::Rings::at_once))]
+fn way_past<F: Fn(Ring) -> bool>(t: Tables, n: u8, l: u8, line: Line, suffices: F) -> Way
+    requires { F.IsAlwaysCallable suffices }
+    ensures { (enough : Ring → Bool) → ((ring : Ring) (x : Bool) → F.post suffices ring x → x ≡ enough ring) → result ≡ way_past line enough n l t }
 {
-    if head == 0 {
-        return enough;
-    }
-    false
-}
-
-// The way of l bytes at the ring in bay b.
-fn way_of(b: u8, size: u16, l: u8, head: u8, enough: bool) -> Way
-    ensures { result ≡ way_of b size l head enough }
-{
-    if allowed(l, size) {
-        if at_once(head, enough) {
-            return Way::AtOnce(b);
-        }
-        return Way::Blocked;
-    }
-    Way::Closed
-}
-
-// The way into the ring in bay b, past the putters of ring n.
-fn way_into_ring(t: Tables, n: u8, l: u8, b: u8) -> Way
-    ensures { result ≡ way_into_ring n l b (ring_in t b) t }
-{
+    let Kind::Ring(b) = tables::structure_at(t, n).kind else {
+        return Way::Closed;
+    };
     let ring = tables::ring_in(t, b);
-    let head = tables::head_of(t, Line::Putters(n)).unwrap_or(0);
-    let room = ring.held as usize + l as usize <= ring.size as usize;
-    way_of(b, ring.size, l, head, room)
+    if !allowed(l, ring.size) {
+        return Way::Closed;
+    }
+    if tables::head_of(t, line).is_none() && suffices(ring) {
+        return Way::AtOnce(b);
+    }
+    Way::Blocked
 }
 
-// The way of l bytes into structure n.
+// The way of l bytes into structure n: past the putters, where there is room.
 fn way_in(t: Tables, n: u8, l: u8) -> Way
     ensures { result ≡ way_in n l t }
 {
-    let structure = tables::structure_at(t, n);
-    let kind = structure.kind;
-    match kind {
-        Kind::Free => Way::Closed,
-        Kind::Binary(_) => Way::Closed,
-        Kind::Counting(_) => Way::Closed,
-        Kind::Ring(b) => way_into_ring(t, n, l, b),
-    }
+    way_past(
+        t,
+        n,
+        l,
+        Line::Putters(n),
+        |ring| has_room(l, ring.held, ring.size),
+    )
 }
 
-// The way out of the ring in bay b, past the getters of ring n.
-fn way_out_of_ring(t: Tables, n: u8, l: u8, b: u8) -> Way
-    ensures { result ≡ way_out_of_ring n l b (ring_in t b) t }
-{
-    let ring = tables::ring_in(t, b);
-    let head = tables::head_of(t, Line::Getters(n)).unwrap_or(0);
-    let bytes = l as u16 <= ring.held;
-    way_of(b, ring.size, l, head, bytes)
-}
-
-// The way of l bytes out of structure n.
+// The way of l bytes out of structure n: past the getters, where so many are held.
 fn way_out(t: Tables, n: u8, l: u8) -> Way
     ensures { result ≡ way_out n l t }
 {
-    let structure = tables::structure_at(t, n);
-    let kind = structure.kind;
-    match kind {
-        Kind::Free => Way::Closed,
-        Kind::Binary(_) => Way::Closed,
-        Kind::Counting(_) => Way::Closed,
-        Kind::Ring(b) => way_out_of_ring(t, n, l, b),
-    }
+    way_past(t, n, l, Line::Getters(n), |ring| u16::from(l) <= ring.held)
 }
 
 // The bytes enter the ring in bay b, and the lines are served. With nobody in them that is all.
+#[tactic(auto, unfolding(crate::specs::Rings::put_through))]
 fn put_through(t: Tables, n: u8, b: u8, l: u8, bytes: [u8; 64]) -> Step
     ensures { result ≡ put_through n b l bytes t }
 {
     let next = entered(t, b, parcel_of(bytes, l), l);
-    if tables::in_lines_of(t, n) == 0 {
-        return answers::plainly(next, Outcome::Done);
-    }
-    let done = answers::with_numbers(Outcome::Done, 0, 0, 0);
-    services(next, b, turns(next, n, b), done)
+    served(next, n, b, answers::with_numbers(Outcome::Done, 0, 0, 0))
 }
 
 // The caller joins the putters, its bytes in its parcel.
+#[tactic(auto, using(crate::proofs::Laws::parcel_joins), unfolding(crate::specs::Rings::put_waits))]
 fn put_waits(t: Tables, n: u8, l: u8, bytes: [u8; 64]) -> Step
     ensures { result ≡ put_waits n l bytes t }
 {
@@ -461,53 +300,45 @@ fn put_waits(t: Tables, n: u8, l: u8, bytes: [u8; 64]) -> Step
     )
 }
 
-// Call 18, put, or call 19, conditional put, which does not wait.
-pub fn put_in(t: Tables, n: u8, l: u8, bytes: [u8; 64], waits: bool) -> Step
-    ensures { result ≡ cond waits (put_in n l bytes t) (conditionally_put n l bytes t) }
+// Call 18, put, or call 19, conditional put, which does not wait. The arms are those of `got`: one match for both would take
+// what goes through and who waits as closures, which is longer than the three arms.
+#[tactic(auto, unfolding(crate::specs::Rings::put_in, crate::specs::Rings::put_by, crate::specs::Rings::conditionally_put, crate::specs::Rings::conditionally_put_by))]
+pub fn put_in(t: Tables, n: u8, l: u8, bytes: [u8; 64], form: Form) -> Step
+    ensures { result ≡ cond (waits form) (put_in n l bytes t) (conditionally_put n l bytes t) }
 {
-    if waits & (t.running == 0) {
+    if matches!(form, Form::Waiting) && t.running == 0 {
         return answers::plainly(t, Outcome::No);
     }
-    let way = way_in(t, n, l);
-    match way {
-        Way::Closed => answers::plainly(t, Outcome::No),
-        Way::AtOnce(b) => put_through(t, n, b, l, bytes),
-        Way::Blocked => {
-            if waits {
-                return put_waits(t, n, l, bytes);
-            }
-            answers::plainly(t, Outcome::No)
-        }
+    match (way_in(t, n, l), form) {
+        (Way::AtOnce(b), _) => put_through(t, n, b, l, bytes),
+        (Way::Blocked, Form::Waiting) => put_waits(t, n, l, bytes),
+        (Way::Blocked, Form::Conditional) | (Way::Closed, _) => answers::plainly(t, Outcome::No),
+    }
+}
+
+// The answer that brings these l bytes.
+fn bringing(l: u8, bytes: [u8; 64]) -> Answer
+    ensures { result ≡ answer Done 0 l 0 bytes }
+{
+    Answer {
+        l,
+        bytes,
+        ..answers::with_numbers(Outcome::Done, 0, 0, 0)
     }
 }
 
 // So many bytes leave the ring in bay b and are the answer's, and the lines are served. With nobody in them that is all.
+#[tactic(auto, unfolding(crate::specs::Rings::got_through, crate::specs::Rings::got_from))]
 fn got_through(t: Tables, n: u8, b: u8, l: u8) -> Step
     ensures { result ≡ got_through n b l t }
 {
-    let ring = tables::ring_in(t, b);
-    let moved = bay::get(ring, bay::empty_parcel(), 0, l);
-    let rest = moved.ring;
-    let parcel = moved.parcel;
-    let bytes = parcel.bytes;
-    let next = tables::with_ring(t, b, rest);
-    let answer = Answer {
-        outcome: Outcome::Done,
-        n: 0,
-        l: l,
-        m: 0,
-        bytes: bytes,
-    };
-    if tables::in_lines_of(t, n) == 0 {
-        return Step {
-            tables: next,
-            answer: answer,
-        };
-    }
-    services(next, b, turns(next, n, b), answer)
+    let moved = bay::get(tables::ring_in(t, b), bay::empty_parcel(), 0, l);
+    let next = tables::with_ring(t, b, moved.ring);
+    served(next, n, b, bringing(l, moved.parcel.bytes))
 }
 
 // The caller joins the getters.
+#[tactic(auto, unfolding(crate::specs::Rings::get_waits))]
 fn get_waits(t: Tables, n: u8, l: u8) -> Step
     ensures { result ≡ get_waits n l t }
 {
@@ -515,79 +346,59 @@ fn get_waits(t: Tables, n: u8, l: u8) -> Step
 }
 
 // Call 20, get, or call 21, conditional get, which does not wait.
-pub fn got(t: Tables, n: u8, l: u8, waits: bool) -> Step
-    ensures { result ≡ cond waits (got n l t) (conditionally_got n l t) }
+#[tactic(auto, unfolding(crate::specs::Rings::got, crate::specs::Rings::got_by, crate::specs::Rings::conditionally_got, crate::specs::Rings::conditionally_got_by))]
+pub fn got(t: Tables, n: u8, l: u8, form: Form) -> Step
+    ensures { result ≡ cond (waits form) (got n l t) (conditionally_got n l t) }
 {
     if t.running == 0 {
         return answers::plainly(t, Outcome::No);
     }
-    let way = way_out(t, n, l);
-    match way {
-        Way::Closed => answers::plainly(t, Outcome::No),
-        Way::AtOnce(b) => got_through(t, n, b, l),
-        Way::Blocked => {
-            if waits {
-                return get_waits(t, n, l);
-            }
-            answers::plainly(t, Outcome::No)
-        }
+    match (way_out(t, n, l), form) {
+        (Way::AtOnce(b), _) => got_through(t, n, b, l),
+        (Way::Blocked, Form::Waiting) => get_waits(t, n, l),
+        (Way::Blocked, Form::Conditional) | (Way::Closed, _) => answers::plainly(t, Outcome::No),
     }
 }
 
 // The ring in bay b throws its held bytes away, then serves. With nobody in the lines that is all.
+#[tactic(auto, unfolding(crate::specs::Rings::reset_in))]
 fn reset_in(t: Tables, n: u8, b: u8) -> Step
     ensures { result ≡ reset_in n b t }
 {
-    let ring = tables::ring_in(t, b);
-    let thrown = tables::with_ring(t, b, bay::reset(ring));
-    if tables::in_lines_of(t, n) == 0 {
-        return answers::plainly(thrown, Outcome::Done);
-    }
-    let done = answers::with_numbers(Outcome::Done, 0, 0, 0);
-    services(thrown, b, turns(thrown, n, b), done)
+    let thrown = tables::with_ring(t, b, bay::reset(tables::ring_in(t, b)));
+    served(thrown, n, b, answers::with_numbers(Outcome::Done, 0, 0, 0))
 }
 
 // Call 22, reset ring.
+#[tactic(auto, unfolding(crate::specs::Rings::reset_ring, crate::specs::Rings::reset_kind))]
 pub fn reset_ring(t: Tables, n: u8) -> Step
     ensures { result ≡ reset_ring n t }
 {
-    let structure = tables::structure_at(t, n);
-    let kind = structure.kind;
-    match kind {
-        Kind::Free => answers::plainly(t, Outcome::No),
-        Kind::Binary(_) => answers::plainly(t, Outcome::No),
-        Kind::Counting(_) => answers::plainly(t, Outcome::No),
+    match tables::structure_at(t, n).kind {
         Kind::Ring(b) => reset_in(t, n, b),
+        _ => answers::plainly(t, Outcome::No),
     }
 }
 
 // The caller's parcel, which holds l bytes, is emptied, and they are the answer's.
+#[tactic(auto, unfolding(crate::specs::Rings::collected_bytes))]
 fn collected_bytes(t: Tables, l: u8, bytes: [u8; 64]) -> Step
     ensures { result ≡ collected_bytes l bytes t }
 {
-    let next = tables::with_parcel(t, t.running, bay::empty_parcel());
-    let answer = Answer {
-        outcome: Outcome::Done,
-        n: 0,
-        l: l,
-        m: 0,
-        bytes: bytes,
-    };
     Step {
-        tables: next,
-        answer: answer,
+        tables: tables::with_parcel(t, t.running, bay::empty_parcel()),
+        answer: bringing(l, bytes),
     }
 }
 
 // Call 23, collect.
+#[tactic(auto, unfolding(crate::specs::Rings::collected, crate::specs::Rings::collected_from))]
 pub fn collected(t: Tables) -> Step
     ensures { result ≡ collected t }
 {
     let parcel = tables::parcel_for(t, t.running);
-    let bytes = parcel.bytes;
-    let holds = parcel.holds;
-    match holds {
+    match parcel.holds {
+        Some(l) => collected_bytes(t, l, parcel.bytes),
         None => answers::plainly(t, Outcome::No),
-        Some(l) => collected_bytes(t, l, bytes),
     }
 }

@@ -1,19 +1,8 @@
--- `rings::way_in` meets its contract: each return is the definition at the tests on the way.
-use Rattle.rings.specs.Rings.{way_in, way_into_kind}
+-- `rings::way_in` meets its contract: the closure computes whether there is room.
+use Rattle.std.specs.Prelude.{◌+◌, leb}
+use Rattle.std.proofs.Common.{rules, ◌∙◌}
+use Rattle.rings.proofs.Laws.{past_putters}
 use Rattle.rings.proofs.way_in.Goals as goal
 
-pub returns-in-Free : goal.returns-in-Free
-unfolding way_in way_into_kind
-returns-in-Free c = simp (c.in-Free.is, ← c.structure_at-structure.ensures)
-
-pub returns-in-Binary : goal.returns-in-Binary
-unfolding way_in way_into_kind
-returns-in-Binary c = simp (c.in-Binary.is, ← c.structure_at-structure.ensures)
-
-pub returns-in-Counting : goal.returns-in-Counting
-unfolding way_in way_into_kind
-returns-in-Counting c = simp (c.in-Counting.is, ← c.structure_at-structure.ensures)
-
-pub returns-in-Ring : goal.returns-in-Ring
-unfolding way_in way_into_kind
-returns-in-Ring c = simp (c.in-Ring.is, ← c.way_into_ring.ensures, ← c.structure_at-structure.ensures)
+pub returns : goal.returns
+returns c = c.way_past.ensures (λ r. leb (r.held + c.args.l) r.size) (λ r x e. search rules) ∙ past_putters c.args.n c.args.l c.args.t

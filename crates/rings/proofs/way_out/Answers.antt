@@ -1,19 +1,8 @@
--- `rings::way_out` meets its contract: each return is the definition at the tests on the way.
-use Rattle.rings.specs.Rings.{way_out, way_out_of_kind}
+-- `rings::way_out` meets its contract: the closure computes whether so many are held.
+use Rattle.std.specs.Prelude.{leb}
+use Rattle.std.proofs.Common.{rules, ◌∙◌}
+use Rattle.rings.proofs.Laws.{past_getters}
 use Rattle.rings.proofs.way_out.Goals as goal
 
-pub returns-in-Free : goal.returns-in-Free
-unfolding way_out way_out_of_kind
-returns-in-Free c = simp (c.in-Free.is, ← c.structure_at-structure.ensures)
-
-pub returns-in-Binary : goal.returns-in-Binary
-unfolding way_out way_out_of_kind
-returns-in-Binary c = simp (c.in-Binary.is, ← c.structure_at-structure.ensures)
-
-pub returns-in-Counting : goal.returns-in-Counting
-unfolding way_out way_out_of_kind
-returns-in-Counting c = simp (c.in-Counting.is, ← c.structure_at-structure.ensures)
-
-pub returns-in-Ring : goal.returns-in-Ring
-unfolding way_out way_out_of_kind
-returns-in-Ring c = simp (c.in-Ring.is, ← c.way_out_of_ring.ensures, ← c.structure_at-structure.ensures)
+pub returns : goal.returns
+returns c = c.way_past.ensures (λ r. leb c.args.l r.held) (λ r x e. search rules) ∙ past_getters c.args.n c.args.l c.args.t

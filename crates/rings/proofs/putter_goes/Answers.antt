@@ -1,9 +1,0 @@
--- `rings::putter_goes` meets its contract: each return is the definition at the tests on the way.
-use borrow.Author.Tests.{eq-eqb, ne_eqb}
-use Rattle.rings.proofs.putter_goes.Goals as goal
-
-pub returns-then-p-eq0 : goal.returns-then-p-eq0
-returns-then-p-eq0 c = simp (eq-eqb _ _ c.if-p-eq0.true)
-
-pub returns : goal.returns
-returns c = simp (ne_eqb _ _ c.if-p-eq0.false)
