@@ -7,14 +7,13 @@ ghost use Rattle.records.specs.Records.{reply, written_to};
 ghost use Rattle.answers.specs.Answers.{outcome_number};
 ghost use Rattle.calls.specs.Calls.{moves_bytes};
 ghost use Rattle.layout.specs.Typed.{Typed};
-ghost use Rattle.steps.specs.Steps.{done, replied};
+ghost use Rattle.steps.specs.Steps.{replied};
 ghost use Rattle.kernel.specs.Called.{Called, fresh_code, fresh_state, refusal_reply};
 ghost use Rattle.kernel.specs.Stored.{stored};
 
 use answers::{Answer, Outcome, Step};
 use calls::Deed;
 use records::Record;
-use tables::Tables;
 
 // How many bytes a state has.
 pub fn brombeertor_state_length() -> usize
@@ -24,7 +23,6 @@ pub fn brombeertor_state_length() -> usize
 }
 
 // Makes a fresh state: 0, and all bytes zero; of the wrong length 40, and nothing changes.
-#[tactic(auto, unfolding(crate::specs::Called::fresh_code, crate::specs::Called::fresh_state))]
 pub fn brombeertor_fresh(state: &mut [u8]) -> u32
     ensures { (result ≡ fresh_code state.old) × (state.new ≡ fresh_state state.old) }
 {
@@ -87,40 +85,6 @@ fn reply_of(said: Answer, running: u8) -> Record
     }
 }
 
-// What an accepted request does to the tables, and what it answers.
-#[inline(always)]
-#[tactic(auto, unfolding(steps::specs::Steps::done))]
-fn done(t: Tables, r: Record, deed: Deed) -> Step
-    ensures { result ≡ done deed r t }
-{
-    match deed {
-        Deed::Unknown => answers::plainly(t, Outcome::No),
-        Deed::Tick => processes::ticked(t, 1),
-        Deed::CreateProcess => processes::created(t, r.l),
-        Deed::DeleteMyself => processes::deleted_myself(t),
-        Deed::Suspend => processes::suspended(t, r.n),
-        Deed::Resume => processes::resumed(t, r.n),
-        Deed::ChangePriority => processes::prioritised(t, r.n, r.l),
-        Deed::Schedule => processes::scheduled(t),
-        Deed::ProcessState => processes::stated(t, r.n),
-        Deed::Sleep => processes::slept(t, r.m),
-        Deed::CreateStructure => structures::created(t, r.l, r.m),
-        Deed::DeleteStructure => structures::deleted(t, r.n),
-        Deed::StructureValue => structures::valued(t, r.n),
-        Deed::Signal => semaphores::signalled(t, r.n),
-        Deed::ConditionalSignal => semaphores::conditionally_signalled(t, r.n),
-        Deed::SignalAll => semaphores::all_signalled(t, r.n),
-        Deed::Wait => semaphores::waited(t, r.n),
-        Deed::ConditionalWait => semaphores::conditionally_waited(t, r.n),
-        Deed::Put => rings::put_in(t, r.n, r.l, r.bytes, true),
-        Deed::ConditionalPut => rings::put_in(t, r.n, r.l, r.bytes, false),
-        Deed::Get => rings::got(t, r.n, r.l, true),
-        Deed::ConditionalGet => rings::got(t, r.n, r.l, false),
-        Deed::ResetRing => rings::reset_ring(t, r.n),
-        Deed::Collect => rings::collected(t),
-    }
-}
-
 // The end of an accepted call: whoever is due runs, and the reply and the state are written. What rings and parcels hold is
 // written only where the deed moves bytes.
 #[tactic(auto, unfolding(steps::specs::Steps::replied, steps::specs::Steps::replied_by, crate::specs::Stored::stored))]
@@ -146,7 +110,8 @@ fn finished(state: &mut [u8], answer: &mut [u8], step: Step, deed: Deed) -> u32
     reply.what.into()
 }
 
-// Carries out a request on a state: the code is returned and stands in the reply.
+// Carries out a request on a state: the code is returned and stands in the reply. The match on the deed stands in the
+// function that owns the tables: tried in one between, even inlined, it copied them once more (a fifth more time a call).
 pub fn brombeertor_call(state: &mut [u8], request: &[u8], answer: &mut [u8]) -> u32
     ensures { Called state.old request.now answer.old result state.new answer.new }
 {
@@ -166,5 +131,31 @@ pub fn brombeertor_call(state: &mut [u8], request: &[u8], answer: &mut [u8]) -> 
         return refused(answer, refusal.into(), t.running);
     }
     let deed = calls::row_of(r.what).deed;
-    finished(state, answer, done(t, r, deed), deed)
+    let step = match deed {
+        Deed::Unknown => answers::plainly(t, Outcome::No),
+        Deed::Tick => processes::ticked(t, 1),
+        Deed::CreateProcess => processes::created(t, r.l),
+        Deed::DeleteMyself => processes::deleted_myself(t),
+        Deed::Suspend => processes::suspended(t, r.n),
+        Deed::Resume => processes::resumed(t, r.n),
+        Deed::ChangePriority => processes::prioritised(t, r.n, r.l),
+        Deed::Schedule => processes::scheduled(t),
+        Deed::ProcessState => processes::stated(t, r.n),
+        Deed::Sleep => processes::slept(t, r.m),
+        Deed::CreateStructure => structures::created(t, r.l, r.m),
+        Deed::DeleteStructure => structures::deleted(t, r.n),
+        Deed::StructureValue => structures::valued(t, r.n),
+        Deed::Signal => semaphores::signalled(t, r.n),
+        Deed::ConditionalSignal => semaphores::conditionally_signalled(t, r.n),
+        Deed::SignalAll => semaphores::all_signalled(t, r.n),
+        Deed::Wait => semaphores::waited(t, r.n),
+        Deed::ConditionalWait => semaphores::conditionally_waited(t, r.n),
+        Deed::Put => rings::put_in(t, r.n, r.l, r.bytes, true),
+        Deed::ConditionalPut => rings::put_in(t, r.n, r.l, r.bytes, false),
+        Deed::Get => rings::got(t, r.n, r.l, true),
+        Deed::ConditionalGet => rings::got(t, r.n, r.l, false),
+        Deed::ResetRing => rings::reset_ring(t, r.n),
+        Deed::Collect => rings::collected(t),
+    };
+    finished(state, answer, step, deed)
 }
