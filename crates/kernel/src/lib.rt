@@ -23,6 +23,7 @@ pub fn brombeertor_state_length() -> usize
 }
 
 // Makes a fresh state: 0, and all bytes zero; of the wrong length 40, and nothing changes.
+#[tactic(auto, unfolding(crate::specs::Called::fresh_code, crate::specs::Called::fresh_state))]
 pub fn brombeertor_fresh(state: &mut [u8]) -> u32
     ensures { (result ≡ fresh_code state.old) × (state.new ≡ fresh_state state.old) }
 {

@@ -3,7 +3,7 @@
 
 ghost use Rattle.std.specs.Prelude.{◌≡◌, ◌==◌, not, cond, eqb, drop};
 ghost use Rattle.std.specs.List.{list_all};
-ghost use Rattle.tables.specs.Access.{numbered, process_of, structure_of, parcel_for};
+ghost use Rattle.tables.specs.Access.{process_of, structure_of, parcel_for};
 ghost use Rattle.tables.specs.Numbers.{is_live};
 ghost use Rattle.calls.specs.Calls.{call_number, unknown};
 ghost use Rattle.refusals.specs.Codes.{code_of, refused_as};
@@ -33,7 +33,7 @@ ghost use Rattle.refusals.specs.Refusals.{
 
 use calls::{Amount, Data, Deed, Number, Row, Small};
 use records::Record;
-use tables::{Kind, Process, Tables};
+use tables::{Kind, Place, Process, Tables};
 
 // Why a request is refused, each with its code. Of those that apply the first of this list is given.
 #[derive(Clone, Copy, PartialEq, Eq)]
@@ -179,21 +179,7 @@ fn wrong_kind(number: Number, kind: Kind) -> bool
 fn dead_process(row: Row, process: Process) -> bool
     ensures { result ≡ dead_process row process }
 {
-    row.n == Number::Process && tables::code_of(process.place) == 0
-}
-
-// The one with number n, or none.
-#[tactic(auto, unfolding(tables::specs::Access::numbered))]
-fn numbered<T: Copy>(table: &[T], n: u8, none: T) -> T
-    ensures { result ≡ numbered table.now n none }
-{
-    if n == 0 {
-        return none;
-    }
-    match table.get(usize::from(n) - 1) {
-        Some(x) => *x,
-        None => none,
-    }
+    row.n == Number::Process && process.place == Place::Nowhere
 }
 
 // The process that N names, or nobody.
@@ -201,7 +187,7 @@ fn numbered<T: Copy>(table: &[T], n: u8, none: T) -> T
 fn process_named(t: &Tables, n: u8) -> Process
     ensures { result ≡ process_of t.now n }
 {
-    numbered(&t.processes, n, tables::nobody())
+    tables::numbered(&t.processes, n, tables::nobody())
 }
 
 // What the structure is that N names, or nothing.
@@ -209,7 +195,7 @@ fn process_named(t: &Tables, n: u8) -> Process
 fn kind_named(t: &Tables, n: u8) -> Kind
     ensures { result ≡ (structure_of t.now n).kind }
 {
-    numbered(&t.structures, n, tables::nothing()).kind
+    tables::numbered(&t.structures, n, tables::nothing()).kind
 }
 
 // The refusals that the request's row in the call table decides.
