@@ -57,7 +57,8 @@ fn refused(answer: &mut [u8], code: u8, running: u8) -> u32
     code.into()
 }
 
-// The state is not sound: nobody runs.
+// The state is not sound: nobody runs. 39 and 40 stay numbers, as `Called` and `fresh_code` name them: they are given by the
+// functions that C calls alone, and asked for nowhere here.
 fn not_sound(answer: &mut [u8]) -> u32
     ensures code { result ≡ 40 }
     ensures answer { answer.new ≡ written_to answer.old (refusal_reply 40 0) }
@@ -77,7 +78,7 @@ fn reply_of(said: Answer, running: u8) -> Record
         bytes,
     } = said;
     Record {
-        what: u8::from(outcome),
+        what: outcome.into(),
         who: running,
         n,
         l,
