@@ -14,7 +14,8 @@ ghost use Rattle.calls.specs.Calls.{
   moves_bytes,
 };
 
-// What a request asks for.
+// What a request asks for. Unknown stays among the deeds: `row_of` of Calls has a row for every number, and `done` of Steps,
+// `call_known` and `done_steady` speak of that row's deed for every request.
 #[derive(Clone, Copy)]
 pub enum Deed {
     Unknown,
@@ -43,8 +44,9 @@ pub enum Deed {
     Collect,
 }
 
-// Who may make a request: P a process only, B the board only, E either. An unknown request nobody may make.
-#[derive(Clone, Copy)]
+// Who may make a request: P a process only, B the board only, E either. An unknown request nobody may make: Nobody stays
+// among the callers, as `unknown` and `is_unknown` of Calls, which `unknown_numbers` is about, name it.
+#[derive(Clone, Copy, PartialEq, Eq)]
 pub enum Callers {
     Nobody,
     Process,
@@ -53,7 +55,7 @@ pub enum Callers {
 }
 
 // What the number N is.
-#[derive(Clone, Copy)]
+#[derive(Clone, Copy, PartialEq, Eq)]
 pub enum Number {
     Unused,
     Process,
@@ -97,15 +99,15 @@ pub struct Row {
     pub bytes: Data,
 }
 
-// A request that uses N and L.
-fn uses_nl(deed: Deed, callers: Callers, n: Number, l: Small) -> Row
-    ensures { result ≡ uses_nl deed callers n l }
+// A request that uses no field.
+fn uses_nothing(deed: Deed, callers: Callers) -> Row
+    ensures { result ≡ uses_nothing deed callers }
 {
     Row {
         deed,
         callers,
-        n,
-        l,
+        n: Number::Unused,
+        l: Small::Unused,
         m: Amount::Unused,
         bytes: Data::Unused,
     }
@@ -115,14 +117,20 @@ fn uses_nl(deed: Deed, callers: Callers, n: Number, l: Small) -> Row
 fn uses_n(deed: Deed, callers: Callers, n: Number) -> Row
     ensures { result ≡ uses_n deed callers n }
 {
-    uses_nl(deed, callers, n, Small::Unused)
+    Row {
+        n,
+        ..uses_nothing(deed, callers)
+    }
 }
 
-// A request that uses no field.
-fn uses_nothing(deed: Deed, callers: Callers) -> Row
-    ensures { result ≡ uses_nothing deed callers }
+// A request that uses N and L.
+fn uses_nl(deed: Deed, callers: Callers, n: Number, l: Small) -> Row
+    ensures { result ≡ uses_nl deed callers n l }
 {
-    uses_n(deed, callers, Number::Unused)
+    Row {
+        l,
+        ..uses_n(deed, callers, n)
+    }
 }
 
 // A request that uses L and M.
@@ -130,12 +138,9 @@ fn uses_lm(deed: Deed, callers: Callers, l: Small, m: Amount) -> Row
     ensures { result ≡ uses_lm deed callers l m }
 {
     Row {
-        deed,
-        callers,
-        n: Number::Unused,
         l,
         m,
-        bytes: Data::Unused,
+        ..uses_nothing(deed, callers)
     }
 }
 
@@ -144,57 +149,71 @@ fn uses_nl_and_data(deed: Deed, callers: Callers, n: Number, l: Small) -> Row
     ensures { result ≡ uses_nl_and_data deed callers n l }
 {
     Row {
-        deed,
-        callers,
-        n,
-        l,
-        m: Amount::Unused,
         bytes: Data::UpToLength,
-    }
-}
-
-// Who may make the request with this number.
-fn callers_of(call: u8) -> Callers
-    ensures { result ≡ (row_of call).callers }
-{
-    match call {
-        1 => Callers::Board,
-        3..=4 | 6..=7 | 9 | 16..=18 | 20..=21 | 23 => Callers::Process,
-        2 | 5 | 8 | 10..=15 | 19 | 22 => Callers::Either,
-        0 | 24..=255 => Callers::Nobody,
+        ..uses_nl(deed, callers, n, l)
     }
 }
 
 // The call table: what the request with this number is.
+#[tactic(auto, using(crate::specs::Laws::unknown_above), unfolding(crate::specs::Calls::table, crate::specs::Calls::row_in, crate::specs::Calls::row_of))]
 pub fn row_of(call: u8) -> Row
     ensures { result ≡ row_of call }
 {
-    let who = callers_of(call);
     match call {
-        1 => uses_nothing(Deed::Tick, who),
-        2 => uses_nl(Deed::CreateProcess, who, Number::Unused, Small::Priority),
-        3 => uses_nothing(Deed::DeleteMyself, who),
-        4 => uses_n(Deed::Suspend, who, Number::Process),
-        5 => uses_n(Deed::Resume, who, Number::Process),
-        6 => uses_nl(Deed::ChangePriority, who, Number::Process, Small::Priority),
-        7 => uses_nothing(Deed::Schedule, who),
-        8 => uses_n(Deed::ProcessState, who, Number::Process),
-        9 => uses_lm(Deed::Sleep, who, Small::Unused, Amount::Milliseconds),
-        10 => uses_lm(Deed::CreateStructure, who, Small::Kind, Amount::StartOrSize),
-        11 => uses_n(Deed::DeleteStructure, who, Number::Structure),
-        12 => uses_n(Deed::StructureValue, who, Number::Structure),
-        13 => uses_n(Deed::Signal, who, Number::Semaphore),
-        14 => uses_n(Deed::ConditionalSignal, who, Number::Semaphore),
-        15 => uses_n(Deed::SignalAll, who, Number::Semaphore),
-        16 => uses_n(Deed::Wait, who, Number::Semaphore),
-        17 => uses_n(Deed::ConditionalWait, who, Number::Semaphore),
-        18 => uses_nl_and_data(Deed::Put, who, Number::Ring, Small::Length),
-        19 => uses_nl_and_data(Deed::ConditionalPut, who, Number::Ring, Small::Length),
-        20 => uses_nl(Deed::Get, who, Number::Ring, Small::Length),
-        21 => uses_nl(Deed::ConditionalGet, who, Number::Ring, Small::Length),
-        22 => uses_n(Deed::ResetRing, who, Number::Ring),
-        23 => uses_nothing(Deed::Collect, who),
-        0 | 24..=255 => uses_nothing(Deed::Unknown, who),
+        1 => uses_nothing(Deed::Tick, Callers::Board),
+        2 => uses_nl(
+            Deed::CreateProcess,
+            Callers::Either,
+            Number::Unused,
+            Small::Priority,
+        ),
+        3 => uses_nothing(Deed::DeleteMyself, Callers::Process),
+        4 => uses_n(Deed::Suspend, Callers::Process, Number::Process),
+        5 => uses_n(Deed::Resume, Callers::Either, Number::Process),
+        6 => uses_nl(
+            Deed::ChangePriority,
+            Callers::Process,
+            Number::Process,
+            Small::Priority,
+        ),
+        7 => uses_nothing(Deed::Schedule, Callers::Process),
+        8 => uses_n(Deed::ProcessState, Callers::Either, Number::Process),
+        9 => uses_lm(
+            Deed::Sleep,
+            Callers::Process,
+            Small::Unused,
+            Amount::Milliseconds,
+        ),
+        10 => uses_lm(
+            Deed::CreateStructure,
+            Callers::Either,
+            Small::Kind,
+            Amount::StartOrSize,
+        ),
+        11 => uses_n(Deed::DeleteStructure, Callers::Either, Number::Structure),
+        12 => uses_n(Deed::StructureValue, Callers::Either, Number::Structure),
+        13 => uses_n(Deed::Signal, Callers::Either, Number::Semaphore),
+        14 => uses_n(Deed::ConditionalSignal, Callers::Either, Number::Semaphore),
+        15 => uses_n(Deed::SignalAll, Callers::Either, Number::Semaphore),
+        16 => uses_n(Deed::Wait, Callers::Process, Number::Semaphore),
+        17 => uses_n(Deed::ConditionalWait, Callers::Process, Number::Semaphore),
+        18 => uses_nl_and_data(Deed::Put, Callers::Process, Number::Ring, Small::Length),
+        19 => uses_nl_and_data(
+            Deed::ConditionalPut,
+            Callers::Either,
+            Number::Ring,
+            Small::Length,
+        ),
+        20 => uses_nl(Deed::Get, Callers::Process, Number::Ring, Small::Length),
+        21 => uses_nl(
+            Deed::ConditionalGet,
+            Callers::Process,
+            Number::Ring,
+            Small::Length,
+        ),
+        22 => uses_n(Deed::ResetRing, Callers::Either, Number::Ring),
+        23 => uses_nothing(Deed::Collect, Callers::Process),
+        0 | 24..=255 => uses_nothing(Deed::Unknown, Callers::Nobody),
     }
 }
 
@@ -202,16 +221,11 @@ pub fn row_of(call: u8) -> Row
 pub fn is_unknown(row: Row) -> bool
     ensures { result ≡ is_unknown row }
 {
-    let callers = row.callers;
-    match callers {
-        Callers::Nobody => true,
-        Callers::Process => false,
-        Callers::Board => false,
-        Callers::Either => false,
-    }
+    row.callers == Callers::Nobody
 }
 
-// May this caller, 0 the board or 1 the running process, make the request?
+// May this caller, 0 the board or 1 the running process, make the request? The caller stays the request's byte, of which
+// `allowed` of Calls speaks: an enum made from it would be asked about once, here, and be no plainer.
 pub fn is_allowed(callers: Callers, caller: u8) -> bool
     ensures { result ≡ allowed callers caller }
 {
@@ -224,33 +238,20 @@ pub fn is_allowed(callers: Callers, caller: u8) -> bool
 }
 
 // Does a request's deed change what rings and parcels hold?
+#[tactic(auto, unfolding(crate::specs::Calls::moves_bytes))]
 pub fn moves_bytes(deed: Deed) -> bool
     ensures { result ≡ moves_bytes deed }
 {
-    match deed {
-        Deed::Unknown => false,
-        Deed::Tick => false,
-        Deed::CreateProcess => false,
-        Deed::DeleteMyself => true,
-        Deed::Suspend => false,
-        Deed::Resume => false,
-        Deed::ChangePriority => false,
-        Deed::Schedule => false,
-        Deed::ProcessState => false,
-        Deed::Sleep => false,
-        Deed::CreateStructure => true,
-        Deed::DeleteStructure => true,
-        Deed::StructureValue => false,
-        Deed::Signal => false,
-        Deed::ConditionalSignal => false,
-        Deed::SignalAll => false,
-        Deed::Wait => false,
-        Deed::ConditionalWait => false,
-        Deed::Put => true,
-        Deed::ConditionalPut => true,
-        Deed::Get => true,
-        Deed::ConditionalGet => true,
-        Deed::ResetRing => true,
-        Deed::Collect => true,
-    }
+    matches!(
+        deed,
+        Deed::DeleteMyself
+            | Deed::CreateStructure
+            | Deed::DeleteStructure
+            | Deed::Put
+            | Deed::ConditionalPut
+            | Deed::Get
+            | Deed::ConditionalGet
+            | Deed::ResetRing
+            | Deed::Collect
+    )
 }

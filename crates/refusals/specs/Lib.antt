@@ -1,3 +1,4 @@
 -- The refusals.
 pub mod Refusals
+pub mod Codes
 pub mod Laws

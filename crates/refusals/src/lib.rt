@@ -1,13 +1,14 @@
-// The refusals: which of the codes 41 to 53 a request gets, if any.
+// The refusals: whether a request is accepted, and if not, why.
 #![tactic(auto)]
 
-ghost use Rattle.std.specs.Prelude.{◌≡◌, not, cond, eqb, leb, drop};
-ghost use Rattle.tables.specs.Access.{numbered, nobody, nothing, process_of, structure_of, parcel_for};
+ghost use Rattle.std.specs.Prelude.{◌≡◌, ◌==◌, not, cond, eqb, drop};
+ghost use Rattle.std.specs.List.{list_all};
+ghost use Rattle.tables.specs.Access.{process_of, structure_of, parcel_for};
 ghost use Rattle.tables.specs.Numbers.{is_live};
 ghost use Rattle.calls.specs.Calls.{call_number, unknown};
+ghost use Rattle.refusals.specs.Codes.{code_of, refused_as};
 ghost use Rattle.refusals.specs.Refusals.{
   both,
-  all_zero,
   wrong_caller,
   number_fits,
   small_fits,
@@ -32,46 +33,67 @@ ghost use Rattle.refusals.specs.Refusals.{
 
 use calls::{Amount, Data, Deed, Number, Row, Small};
 use records::Record;
-use tables::{Kind, Process, Structure, Tables};
+use tables::{Kind, Place, Process, Tables};
+
+// Why a request is refused, each with its code. Of those that apply the first of this list is given.
+#[derive(Clone, Copy, PartialEq, Eq)]
+pub enum Refusal {
+    // Call 0 or above 23.
+    UnknownCall = 41,
+    // Caller byte above 1, caller not allowed this call, or a process while none runs.
+    WrongCaller = 42,
+    // A field out of range, or an unused one not zero.
+    BadField = 43,
+    // The structure named is not live.
+    DeadStructure = 44,
+    // A semaphore call on a ring, or a ring call on a semaphore.
+    WrongKind = 45,
+    // The process named is not live.
+    DeadProcess = 46,
+    // Suspend of one suspended already, or resume of one not suspended.
+    WrongSuspension = 47,
+    // Put or get by a process whose parcel holds uncollected bytes.
+    Uncollected = 48,
+    // A length above the ring's size.
+    TooLong = 49,
+    // Signal of a counting semaphore at 32,767.
+    SignalsFull = 50,
+    // Delete of a structure with a process in a line.
+    DeletesInUse = 51,
+    // All processes are live.
+    ProcessesFull = 52,
+    // All structures, or for a ring all rings, are live.
+    StructuresFull = 53,
+}
+
+impl From<Refusal> for u8 {
+    ghost from_gives = { λ refusal code. code ≡ code_of refusal };
+
+    fn from(refusal: Refusal) -> u8 {
+        refusal as u8
+    }
+}
+
+// The refusal where its test says that it applies.
+fn refuse_if(applies: bool, refusal: Refusal) -> Result<(), Refusal>
+    ensures { refused_as result ≡ cond applies (code_of refusal) 0 }
+{
+    if applies { Err(refusal) } else { Ok(()) }
+}
 
 // Does the caller make a request that it may not make, or is it nobody?
+#[tactic(auto, unfolding(crate::specs::Refusals::wrong_caller))]
 fn wrong_caller(row: Row, caller: u8, running: u8) -> bool
     ensures { result ≡ wrong_caller row caller running }
 {
-    if 1 < caller {
-        return true;
-    }
-    let callers = row.callers;
-    if !calls::is_allowed(callers, caller) {
-        return true;
-    }
-    if caller != 1 {
-        return false;
-    }
-    running == 0
+    caller > 1 || !calls::is_allowed(row.callers, caller) || caller == 1 && running == 0
 }
 
 // Is N zero where it is unused?
 fn number_fits(number: Number, n: u8) -> bool
     ensures { result ≡ number_fits number n }
 {
-    match number {
-        Number::Unused => n == 0,
-        Number::Process => true,
-        Number::Structure => true,
-        Number::Semaphore => true,
-        Number::Ring => true,
-    }
-}
-
-// Does lo <= x <= hi hold?
-fn within(lo: u32, x: u32, hi: u32) -> bool
-    ensures { result ≡ both (leb lo x) (leb x hi) }
-{
-    if x < lo {
-        return false;
-    }
-    x <= hi
+    number != Number::Unused || n == 0
 }
 
 // Is L in its range?
@@ -81,25 +103,17 @@ fn small_fits(small: Small, l: u8) -> bool
     match small {
         Small::Unused => l == 0,
         Small::Priority => true,
-        Small::Kind => within(1, l as u32, 3),
-        Small::Length => within(1, l as u32, 64),
+        Small::Kind => (1..=3).contains(&l),
+        Small::Length => (1..=64).contains(&l),
     }
 }
 
 // Is M a start value or a size for this kind?
+#[tactic(auto, unfolding(crate::specs::Refusals::start_fits))]
 fn start_fits(kind: u8, m: u32) -> bool
     ensures { result ≡ start_fits kind m }
 {
-    if kind == 1 {
-        return m <= 1;
-    }
-    if kind == 2 {
-        return m <= 32767;
-    }
-    if kind == 3 {
-        return within(1, m, 256);
-    }
-    false
+    matches!((kind, m), (1, 0..=1) | (2, 0..=32767) | (3, 1..=256))
 }
 
 // Is M in its range?
@@ -114,23 +128,16 @@ fn amount_fits(amount: Amount, l: u8, m: u32) -> bool
 }
 
 // Are all data bytes from this one on zero?
-fn zero_from(bytes: [u8; 64], from: u8) -> bool
-    ensures { result ≡ all_zero (drop from bytes) }
+fn zero_from(bytes: &[u8], from: u8) -> bool
+    ensures { result ≡ list_all (λ b. b == 0) (drop from bytes.now) }
 {
-    let mut clear = true;
-    let mut i = from as usize;
-    while i < 64 {
-        if bytes[i] != 0 {
-            clear = false;
-        }
-        i += 1;
-    }
-    clear
+    bytes.iter().skip(from.into()).all(|b| *b == 0)
 }
 
 // Are the data zero where they are unused?
-fn data_fit(part: Data, l: u8, bytes: [u8; 64]) -> bool
-    ensures { result ≡ data_fit part l bytes }
+#[tactic(auto, using(crate::proofs::Laws::all_zero_lem))]
+fn data_fit(part: Data, l: u8, bytes: &[u8]) -> bool
+    ensures { result ≡ data_fit part l bytes.now }
 {
     match part {
         Data::Unused => zero_from(bytes, 0),
@@ -139,37 +146,21 @@ fn data_fit(part: Data, l: u8, bytes: [u8; 64]) -> bool
 }
 
 // Is a field out of range, or an unused one not zero?
-fn bad_field(row: Row, r: Record) -> bool
-    ensures { result ≡ bad_field row r }
+#[tactic(auto, unfolding(crate::specs::Refusals::bad_field))]
+fn bad_field(row: Row, r: &Record) -> bool
+    ensures { result ≡ bad_field row r.now }
 {
-    let number = row.n;
-    if !number_fits(number, r.n) {
-        return true;
-    }
-    let small = row.l;
-    if !small_fits(small, r.l) {
-        return true;
-    }
-    let amount = row.m;
-    if !amount_fits(amount, r.l, r.m) {
-        return true;
-    }
-    let part = row.bytes;
-    let bytes = r.bytes;
-    !data_fit(part, r.l, bytes)
+    !(number_fits(row.n, r.n)
+        && small_fits(row.l, r.l)
+        && amount_fits(row.m, r.l, r.m)
+        && data_fit(row.bytes, r.l, &r.bytes))
 }
 
 // Does a request with this use of N name a structure that is not live?
 fn dead_structure(number: Number, kind: Kind) -> bool
     ensures { result ≡ of_named number (not (is_live kind)) }
 {
-    match number {
-        Number::Unused => false,
-        Number::Process => false,
-        Number::Structure => !tables::is_live(kind),
-        Number::Semaphore => !tables::is_live(kind),
-        Number::Ring => !tables::is_live(kind),
-    }
+    matches!(number, Number::Structure | Number::Semaphore | Number::Ring) && !tables::is_live(kind)
 }
 
 // Is it a semaphore call on a ring, or a ring call on a semaphore?
@@ -177,103 +168,59 @@ fn wrong_kind(number: Number, kind: Kind) -> bool
     ensures { result ≡ wrong_for number kind }
 {
     match number {
-        Number::Unused => false,
-        Number::Process => false,
-        Number::Structure => false,
+        Number::Unused | Number::Process | Number::Structure => false,
         Number::Semaphore => tables::is_ring(kind),
         Number::Ring => tables::is_semaphore(kind),
     }
 }
 
-// Does a request with this use of N name a process that is not live?
+// Does a request with this row name a process that is not live?
+#[tactic(auto, unfolding(crate::specs::Refusals::dead_process))]
 fn dead_process(row: Row, process: Process) -> bool
     ensures { result ≡ dead_process row process }
 {
-    let number = row.n;
-    let place = process.place;
-    match number {
-        Number::Unused => false,
-        Number::Process => tables::code_of(place) == 0,
-        Number::Structure => false,
-        Number::Semaphore => false,
-        Number::Ring => false,
-    }
+    row.n == Number::Process && process.place == Place::Nowhere
 }
 
-// The process with number p, or nobody. Only its table is taken, not all tables.
-fn process_in(processes: [Process; 32], p: u8) -> Process
-    ensures { result ≡ numbered processes p nobody }
+// The process that N names, or nobody.
+#[tactic(auto, unfolding(tables::specs::Access::process_of))]
+fn process_named(t: &Tables, n: u8) -> Process
+    ensures { result ≡ process_of t.now n }
 {
-    if p == 0 {
-        return tables::nobody();
-    }
-    if 32 < p {
-        return tables::nobody();
-    }
-    let i = (p - 1) as usize;
-    processes[i]
+    tables::numbered(&t.processes, n, tables::nobody())
 }
 
-// The structure with number n, or nothing.
-fn structure_in(structures: [Structure; 24], n: u8) -> Structure
-    ensures { result ≡ numbered structures n nothing }
+// What the structure is that N names, or nothing.
+#[tactic(auto, unfolding(tables::specs::Access::structure_of))]
+fn kind_named(t: &Tables, n: u8) -> Kind
+    ensures { result ≡ (structure_of t.now n).kind }
 {
-    if n == 0 {
-        return tables::nothing();
-    }
-    if 24 < n {
-        return tables::nothing();
-    }
-    let i = (n - 1) as usize;
-    structures[i]
+    tables::numbered(&t.structures, n, tables::nothing()).kind
 }
 
-// The first of 42 to 46 that applies, or 0. N names this process and a structure of this kind.
-fn early(t: Tables, r: Record, row: Row, process: Process, kind: Kind) -> u8
-    requires { (process ≡ process_of t r.n) × (kind ≡ (structure_of t r.n).kind) }
-    ensures { result ≡ first_that (applies_to row r.what t r) early }
+// The refusals that the request's row in the call table decides.
+#[tactic(auto, using(crate::specs::Laws::dead_named, crate::specs::Laws::wrong_named), unfolding(crate::specs::Refusals::applies_to))]
+fn early(t: &Tables, r: &Record, row: Row) -> Result<(), Refusal>
+    ensures { refused_as result ≡ first_that (applies_to row r.now.what t.now r.now) early }
 {
-    if wrong_caller(row, r.who, t.running) {
-        return 42;
-    }
-    if bad_field(row, r) {
-        return 43;
-    }
-    let number = row.n;
-    if dead_structure(number, kind) {
-        return 44;
-    }
-    if wrong_kind(number, kind) {
-        return 45;
-    }
-    if dead_process(row, process) {
-        return 46;
-    }
-    0
-}
-
-// Does a parcel hold bytes?
-fn holds_bytes(holds: Option<u8>) -> bool
-    ensures { result ≡ holds_bytes holds }
-{
-    match holds {
-        None => false,
-        Some(_) => true,
-    }
+    let kind = kind_named(t, r.n);
+    refuse_if(wrong_caller(row, r.who, t.running), Refusal::WrongCaller)?;
+    refuse_if(bad_field(row, r), Refusal::BadField)?;
+    refuse_if(dead_structure(row.n, kind), Refusal::DeadStructure)?;
+    refuse_if(wrong_kind(row.n, kind), Refusal::WrongKind)?;
+    refuse_if(
+        dead_process(row, process_named(t, r.n)),
+        Refusal::DeadProcess,
+    )
 }
 
 // Is the length above the ring's size?
-fn above_size(t: Tables, l: u8, kind: Kind) -> bool
-    ensures { result ≡ above_size l kind t }
+fn above_size(t: &Tables, l: u8, kind: Kind) -> bool
+    ensures { result ≡ above_size l kind t.now }
 {
     match kind {
-        Kind::Free => false,
-        Kind::Binary(_) => false,
-        Kind::Counting(_) => false,
-        Kind::Ring(b) => {
-            let ring = tables::ring_in(t, b);
-            ring.size < l as u16
-        }
+        Kind::Ring(b) => tables::ring_in(*t, b).size < l.into(),
+        Kind::Free | Kind::Binary(_) | Kind::Counting(_) => false,
     }
 }
 
@@ -281,111 +228,66 @@ fn above_size(t: Tables, l: u8, kind: Kind) -> bool
 fn is_full(kind: Kind) -> bool
     ensures { result ≡ is_full kind }
 {
-    match kind {
-        Kind::Free => false,
-        Kind::Binary(_) => false,
-        Kind::Counting(v) => v == 32767,
-        Kind::Ring(_) => false,
-    }
-}
-
-// The code where its test says so, else 0.
-fn code_if(applies: bool, code: u8) -> u8
-    ensures { result ≡ cond applies code 0 }
-{
-    if applies { code } else { 0 }
+    matches!(kind, Kind::Counting(32767))
 }
 
 // Is the caller a process whose parcel holds uncollected bytes?
-fn uncollected(t: Tables, who: u8) -> bool
-    ensures { result ≡ both (eqb who 1) (holds_bytes (parcel_for t t.running).holds) }
+fn uncollected(t: &Tables, who: u8) -> bool
+    ensures { result ≡ both (eqb who 1) (holds_bytes (parcel_for t.now t.now.running).holds) }
 {
-    if who != 1 {
-        return false;
-    }
-    let parcel = tables::parcel_for(t, t.running);
-    let holds = parcel.holds;
-    holds_bytes(holds)
+    who == 1 && tables::parcel_for(*t, t.running).holds.is_some()
 }
 
-// Put and get, conditional or not: 48, 49, or 0. N names a structure of this kind.
-fn refused_transfer(t: Tables, r: Record, kind: Kind) -> u8
-    requires { kind ≡ (structure_of t r.n).kind }
-    ensures { result ≡ refused_transfer t r }
+// Put and get, conditional or not.
+#[tactic(auto, unfolding(crate::specs::Refusals::refused_transfer))]
+fn refused_transfer(t: &Tables, r: &Record) -> Result<(), Refusal>
+    ensures { refused_as result ≡ refused_transfer t.now r.now }
 {
-    if uncollected(t, r.who) {
-        return 48;
-    }
-    code_if(above_size(t, r.l, kind), 49)
+    refuse_if(uncollected(t, r.who), Refusal::Uncollected)?;
+    refuse_if(above_size(t, r.l, kind_named(t, r.n)), Refusal::TooLong)
 }
 
-// Create structure: 53 or 0.
-fn refused_creation(t: Tables, r: Record) -> u8
-    ensures { result ≡ refused_creation t r }
+// Create structure.
+#[tactic(auto, unfolding(crate::specs::Refusals::refused_creation))]
+fn refused_creation(t: &Tables, r: &Record) -> Result<(), Refusal>
+    ensures { refused_as result ≡ refused_creation t.now r.now }
 {
-    let structures = t.structures;
-    if structures::free_number(structures) == 0 {
-        return 53;
-    }
-    if r.l != 3 {
-        return 0;
-    }
-    code_if(structures::free_bay(structures) == 0, 53)
+    let full = structures::free_number(t.structures) == 0
+        || r.l == 3 && structures::free_bay(t.structures) == 0;
+    refuse_if(full, Refusal::StructuresFull)
 }
 
-// The first of 47 to 53 that applies to this deed, or 0. N names this process and a structure of this kind.
-fn late(t: Tables, r: Record, deed: Deed, process: Process, kind: Kind) -> u8
-    requires { (process ≡ process_of t r.n) × (kind ≡ (structure_of t r.n).kind) }
-    ensures { result ≡ first_that (applies_to unknown (call_number deed) t r) late }
+// The refusals that the request's deed decides.
+#[tactic(auto, unfolding(crate::specs::Refusals::applies_to, crate::specs::Refusals::wrong_suspension, crate::specs::Refusals::uncollected, crate::specs::Refusals::too_long, crate::specs::Refusals::signals_full, crate::specs::Refusals::deletes_in_use, crate::specs::Refusals::processes_full, crate::specs::Refusals::structures_full, crate::specs::Refusals::refused_transfer, crate::specs::Refusals::refused_creation, processes::specs::Processes::free_process))]
+fn late(t: &Tables, r: &Record, deed: Deed) -> Result<(), Refusal>
+    ensures { refused_as result ≡ first_that (applies_to unknown (call_number deed) t.now r.now) late }
 {
     match deed {
-        Deed::Unknown => 0,
-        Deed::Tick => 0,
         Deed::CreateProcess => {
-            let processes = t.processes;
-            code_if(processes::free_process(processes) == 0, 52)
+            refuse_if(
+                processes::free_process(t.processes) == 0,
+                Refusal::ProcessesFull,
+            )
         }
-        Deed::DeleteMyself => 0,
-        Deed::Suspend => code_if(process.suspended, 47),
-        Deed::Resume => code_if(!process.suspended, 47),
-        Deed::ChangePriority => 0,
-        Deed::Schedule => 0,
-        Deed::ProcessState => 0,
-        Deed::Sleep => 0,
+        Deed::Suspend => refuse_if(process_named(t, r.n).suspended, Refusal::WrongSuspension),
+        Deed::Resume => refuse_if(!process_named(t, r.n).suspended, Refusal::WrongSuspension),
         Deed::CreateStructure => refused_creation(t, r),
-        Deed::DeleteStructure => code_if(0 < tables::in_lines_of(t, r.n), 51),
-        Deed::StructureValue => 0,
-        Deed::Signal => code_if(is_full(kind), 50),
-        Deed::ConditionalSignal => 0,
-        Deed::SignalAll => 0,
-        Deed::Wait => 0,
-        Deed::ConditionalWait => 0,
-        Deed::Put => refused_transfer(t, r, kind),
-        Deed::ConditionalPut => refused_transfer(t, r, kind),
-        Deed::Get => refused_transfer(t, r, kind),
-        Deed::ConditionalGet => refused_transfer(t, r, kind),
-        Deed::ResetRing => 0,
-        Deed::Collect => 0,
+        Deed::DeleteStructure => refuse_if(tables::in_lines_of(*t, r.n) > 0, Refusal::DeletesInUse),
+        Deed::Signal => refuse_if(is_full(kind_named(t, r.n)), Refusal::SignalsFull),
+        Deed::Put | Deed::ConditionalPut | Deed::Get | Deed::ConditionalGet => {
+            refused_transfer(t, r)
+        }
+        _ => Ok(()),
     }
 }
 
-// The code with which a request is refused, or 0 where it is accepted.
-pub fn refusal(t: Tables, r: Record) -> u8
-    ensures { result ≡ refusal t r }
+// Is the request accepted? Else why not.
+#[tactic(auto, using(crate::proofs::Laws::refusal_found))]
+pub fn check(t: Tables, r: Record) -> Result<(), Refusal>
+    ensures { refused_as result ≡ refusal t r }
 {
     let row = calls::row_of(r.what);
-    if calls::is_unknown(row) {
-        return 41;
-    }
-    let processes = t.processes;
-    let process = process_in(processes, r.n);
-    let structures = t.structures;
-    let structure = structure_in(structures, r.n);
-    let kind = structure.kind;
-    let first = early(t, r, row, process, kind);
-    if first != 0 {
-        return first;
-    }
-    let deed = row.deed;
-    late(t, r, deed, process, kind)
+    refuse_if(calls::is_unknown(row), Refusal::UnknownCall)?;
+    early(&t, &r, row)?;
+    late(&t, &r, row.deed)
 }

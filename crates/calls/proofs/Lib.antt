@@ -1,2 +1,0 @@
--- What several proofs of this crate cite.
-pub mod Laws
