@@ -25,7 +25,7 @@ use Rattle.tables.specs.declared.Structure.{Structure}
 use Rattle.tables.specs.declared.Place.{Place}
 use Rattle.tables.specs.declared.Place.TheVariants.{Getting, Putting}
 use Rattle.tables.specs.declared.Kind.{Kind}
-use Rattle.tables.specs.declared.Kind.TheVariants.{Free, Binary, Counting, Ring}
+use Rattle.tables.specs.declared.Kind.TheVariants.{Ring}
 use Rattle.tables.specs.Numbers.{code, spot}
 use Rattle.tables.specs.Laws.{numbered_at}
 use Rattle.tables.specs.Access.{numbered, nobody, process_of, ring_in}
@@ -88,7 +88,6 @@ every_none : (f : ℕ → Bool) → every 0 f ≡ true
 unfolding every
 every_none f = refl
 
--- From the first one on
 every_from : (n : ℕ) (f : ℕ → Bool) → every (suc n) f ≡ (f 1 && every n (λ k. f (suc k)))
 unfolding every
 every_from zero f = sym (and-true (f 1))
@@ -112,7 +111,7 @@ every_both (suc n) f g = rw (every_both n f g) (middle (every n f) (every n g) (
     middle true false true d = refl
     middle true false false d = refl
 
--- Each of a range, and each of a list by its number
+-- Each number of 1..=n
 counted_from : (f : ℕ → Bool) (n a : ℕ) → list_all f (range_with_len (suc a) n) ≡ every n (λ k. f (a + k))
 counted_from f zero a = sym (every_none (λ k. f (a + k)))
 counted_from f (suc n) a =
@@ -120,8 +119,8 @@ counted_from f (suc n) a =
     let here : f (suc a) ≡ f (a + 1) = ap f (omega arith) in
     rw (more, every_from n (λ k. f (a + k)), here, counted_from f n (suc a)) (ap (λ b. f (a + 1) && b) (every_same n _ _ (λ k u v. ap f (omega arith))))
 
-pub every_number : (n : ℕ) (f : ℕ → Bool) → list_all f (range_with_len 1 n) ≡ every n f
-every_number n f = counted_from f n 0 ∙ every_same n _ _ (λ k u v. ap f (omega arith))
+pub every_number : (n : ℕ) (f g : ℕ → Bool) → ((p : ℕ) → 1 ≤ p → p ≤ n → f p ≡ g p) → list_all f (range_with_len 1 n) ≡ every n g
+every_number n f g h = counted_from f n 0 ∙ every_same n _ g (λ p u v. ap f (omega arith) ∙ h p u v)
 
 -- the numbers that 1..=n gives
 abbrev left : RangeInclusive ℕ → ℕ
@@ -141,23 +140,22 @@ inclusive (suc n) a s e f = (
 pub each_number : {s : RangeInclusive ℕ} (n : ℕ) → s.start ≡ 1 → s.end ≡ n → s.exhausted ≡ false → YieldsList nat_range_inclusive_steps (λ x. x) s (range_with_len 1 n)
 each_number {s} n a e f = record { runs = inclusive n 1 s (ap (range_inclusive_len (λ x y. y - x) s.start s.end) f ∙ omega arith) (λ h. a) }
 
--- the entry with number k is the next one of a longer list
+-- Each entry of a list: the one with number k is the next one of a longer list
 next_entry : {A : Type 0} (l : List A) (x d : A) (k : ℕ) → 1 ≤ k → numbered l k d ≡ numbered (x ∷ l) (suc k) d
 unfolding numbered
 next_entry l x d k h =
     let next : suc k - 1 ≡ suc (k - 1) = omega arith in
     rw (ne_eqb k 0 (λ z. omega arith), ne_eqb (suc k) 0 (λ z. omega arith), next)
 
-pub every_entry : {A : Type 0} (f : A → Bool) (d : A) (l : List A) → list_all f l ≡ every (length l) (λ n. f (numbered l n d))
+by_number : {A : Type 0} (f : A → Bool) (d : A) (l : List A) → list_all f l ≡ every (length l) (λ k. f (numbered l k d))
 unfolding numbered
-every_entry f d [] = sym (every_none _)
-every_entry f d (x ∷ l) =
-    ap (λ b. f x && b) (every_entry f d l ∙ every_same (length l) _ _ (λ k u v. ap f (next_entry l x d k u)))
-    ∙ sym (every_from (length l) (λ n. f (numbered (x ∷ l) n d)))
+by_number f d [] = sym (every_none _)
+by_number f d (x ∷ l) =
+    ap (λ b. f x && b) (by_number f d l ∙ every_same (length l) _ _ (λ k u v. ap f (next_entry l x d k u)))
+    ∙ sym (every_from (length l) (λ k. f (numbered (x ∷ l) k d)))
 
--- the same of a list that an array holds
-pub every_of : {A : Type 0} (f : A → Bool) (d : A) (l : List A) (n : ℕ) → length l ≡ n → list_all f l ≡ every n (λ k. f (numbered l k d))
-every_of f d l n e = rw (← e) (every_entry f d l)
+pub every_entry : {A : Type 0} (f : A → Bool) (d : A) (l : List A) (n : ℕ) (g : ℕ → Bool) → length l ≡ n → ((p : ℕ) → 1 ≤ p → p ≤ n → f (numbered l p d) ≡ g p) → list_all f l ≡ every n g
+every_entry f d l n g e h = rw (← e) (by_number f d l) ∙ every_same n _ g h
 
 -- ---- who is ready
 
@@ -165,10 +163,9 @@ rank_at : (ps : List Process) (p : ℕ) → 1 ≤ p → (numbered ps p nobody).p
 unfolding urgency
 rank_at ps p u = rw (ne_eqb p 0 (λ z. omega arith), add-one)
 
-pub urgent_told : (running : ℕ) (ps : List Process) {top : ℕ} {r : Bool} → length ps ≡ 32 → top ≡ urgency ps running → r ≡ list_all (λ q. rank_tested top (q.priority + 1) q.place) ps → r ≡ urgency_tested running ps
+pub urgent_told : (running : ℕ) (ps : List Process) {top : ℕ} → length ps ≡ 32 → top ≡ urgency ps running → list_all (λ q. rank_tested top (q.priority + 1) q.place) ps ≡ urgency_tested running ps
 unfolding urgency_tested
-urgent_told running ps {top} long e told =
-    told ∙ every_of _ nobody ps 32 long ∙ every_same 32 _ _ (λ p u v. rw (e, rank_at ps p u))
+urgent_told running ps {top} long e = every_entry _ nobody ps 32 _ long (λ p u v. rw (e, rank_at ps p u))
 
 -- ---- how often a number comes
 
@@ -246,9 +243,7 @@ off_ring _ h k = (λ e. omega arith, λ e. omega arith)
 -- ---- the processes, by how often each is listed, and by what its parcel holds
 
 pub placed_told : (t : Tables) {times : List ℕ} → times ≡ listings_of t.order → list_all (λ p. placed_tested (get_or times p 0) t p) (range_with_len 1 32) ≡ every 32 (λ p. placed_tested (count p t.order) t p)
-placed_told t {times} e =
-    every_number 32 (λ p. placed_tested (get_or times p 0) t p)
-    ∙ every_same 32 (λ p. placed_tested (get_or times p 0) t p) (λ p. placed_tested (count p t.order) t p) (λ p u v. rw (e, counted_at t.order p (omega arith)))
+placed_told t {times} e = every_number 32 (λ p. placed_tested (get_or times p 0) t p) (λ p. placed_tested (count p t.order) t p) (λ p u v. rw (e, counted_at t.order p (omega arith)))
 
 every_parts : (n : ℕ) (f g h : ℕ → Bool) → every n (λ p. f p && (g p && h p)) ≡ (every n (λ p. f p && g p) && every n h)
 every_parts n f g h = every_same n _ _ (λ p u v. sym (and_assoc (f p) (g p) (h p))) ∙ every_both n (λ p. f p && g p) h
@@ -263,10 +258,8 @@ process_parts t =
 
 -- a structure that is a ring in bay b
 is_ring_in : (b : ℕ) → 1 ≤ b → (kind : Kind) → one (bay_of kind) b ≡ cond (is_in b kind) 1 0
-is_ring_in b h Free = rw (ne_eqb 0 b (λ z. omega arith))
-is_ring_in b h (Binary v) = rw (ne_eqb 0 b (λ z. omega arith))
-is_ring_in b h (Counting v) = rw (ne_eqb 0 b (λ z. omega arith))
 is_ring_in b h (Ring c) = refl
+is_ring_in b h _ = rw (ne_eqb 0 b (λ z. omega arith))
 
 count_users : (b : ℕ) → 1 ≤ b → (l : List Structure) → count b (map (λ s. bay_of s.kind) l) ≡ users b l
 count_users b h [] = refl
@@ -283,8 +276,7 @@ bays_told structures rings {uses} few e =
     let many : length uses ≡ 256 = rw e (length_listings (map (λ s. bay_of s.kind) structures)) in
     let rest : between 1 256 uses ≡ drop 1 uses = between_to_end uses 1 256 (omega arith) in
     let more : length (drop 1 uses) ≡ 255 = rw (length-drop, many) refl in
-    rw rest (every_of (λ p. bay_tested p.1 p.0) (empty_bay, 0) (zip rings (drop 1 uses)) 8 (length-zip rings (drop 1 uses) ∙ omega arith)
-    ∙ every_same 8 _ (λ b. bay_tested (users b structures) (ring_at rings b)) (λ k u v.
+    rw rest (every_entry (λ p. bay_tested p.1 p.0) (empty_bay, 0) (zip rings (drop 1 uses)) 8 (λ b. bay_tested (users b structures) (ring_at rings b)) (length-zip rings (drop 1 uses) ∙ omega arith) (λ k u v.
     let next : 1 + (k - 1) ≡ k = omega arith in
     let uses_of : get_or (drop 1 uses) (k - 1) 0 ≡ users k structures = get_or-drop 1 uses (k - 1) 0 ∙ rw (next, e) (counted_at (map (λ s. bay_of s.kind) structures) k (omega arith)) ∙ count_users k u structures in
     rw (numbered_zip rings (drop 1 uses) k (empty_bay, 0) u (omega arith) (omega arith), uses_of)))
@@ -302,17 +294,14 @@ head_at c ps order n h = get_d_table 256 (λ k. first (keep (stands_in c ps k) o
 
 still_at : (t : Tables) (n : ℕ) → n < 256 → (kind : Kind) → rests_by (get_or (heads_of 5 t.processes t.order) n 0) (get_or (heads_of 6 t.processes t.order) n 0) t kind ≡ still_tested n t kind
 unfolding rests_by still_tested neither_goes getter_can putter_can getter_goes putter_goes ring_in line stands
-still_at t n h Free = refl
-still_at t n h (Binary k) = refl
-still_at t n h (Counting k) = refl
 still_at t n h (Ring b) = rw (head_at 5 t.processes t.order n h, head_at 6 t.processes t.order n h, length_at t (first (keep (stands_in 5 t.processes n) t.order)), length_at t (first (keep (stands_in 6 t.processes n) t.order)))
+still_at t n h _ = refl
 
 pub still_told : (t : Tables) {getters putters : List ℕ} → getters ≡ heads_of 5 t.processes t.order → putters ≡ heads_of 6 t.processes t.order
     → list_all (λ n. rests_by (get_or getters n 0) (get_or putters n 0) t (kind_at t.structures n)) (range_with_len 1 24) ≡ stillness_tested t
 unfolding stillness_tested
 still_told t {getters} {putters} e f =
-    every_number 24 (λ n. rests_by (get_or getters n 0) (get_or putters n 0) t (kind_at t.structures n))
-    ∙ every_same 24 (λ n. rests_by (get_or getters n 0) (get_or putters n 0) t (kind_at t.structures n)) (λ n. still_tested n t (kind_at t.structures n)) (λ n u v. rw (e, f) (still_at t n (omega arith) (kind_at t.structures n)))
+    every_number 24 (λ n. rests_by (get_or getters n 0) (get_or putters n 0) t (kind_at t.structures n)) (λ n. still_tested n t (kind_at t.structures n)) (λ n u v. rw (e, f) (still_at t n (omega arith) (kind_at t.structures n)))
 
 -- Where nobody is at a ring, no line of a ring has a head, so none could be served
 passes : {A : Type 0} (f : A → Bool) (d : A) (l : List A) → f d ≡ true → list_all f l ≡ true → (p : ℕ) → f (numbered l p d) ≡ true
@@ -335,10 +324,8 @@ headless c ps order n none = ap first (keep_none (stands_in c ps n) order (λ y 
 
 unheaded : (t : Tables) (n : ℕ) (kind : Kind) → first (keep (stands_in 5 t.processes n) t.order) ≡ 0 → first (keep (stands_in 6 t.processes n) t.order) ≡ 0 → still_tested n t kind ≡ true
 unfolding still_tested getter_can putter_can getter_goes putter_goes line stands
-unheaded t n Free e f = refl
-unheaded t n (Binary v) e f = refl
-unheaded t n (Counting v) e f = refl
 unheaded t n (Ring b) e f = rw (e, f)
+unheaded t n _ e f = refl
 
 every_true : (n : ℕ) (f : ℕ → Bool) → ((p : ℕ) → f p ≡ true) → every n f ≡ true
 unfolding every

@@ -14,7 +14,6 @@ ghost use Rattle.sound.specs.Tested.{
   listings_of,
   heads_of,
   asks_tested,
-  at_zero,
   fits_tested,
   kept_tested,
   placed_tested,
@@ -23,7 +22,6 @@ ghost use Rattle.sound.specs.Tested.{
   clear_tested,
   good_tested,
   bay_tested,
-  neither_goes,
   rests_by,
   off_rings,
   rank_tested,
@@ -36,8 +34,8 @@ ghost use Rattle.sound.specs.Tested.{
 use bay::{Parcel, Ring};
 use tables::{Kind, Place, Process, Structure, Tables};
 
-// Are these bytes all zero? It stops at none that is not: so the processor looks at many at once, in a tenth of the time.
-#[tactic(auto, using(crate::proofs::Laws::zero_folded))]
+// Are these bytes all zero? It stops at none: `all`, which stops, was tried, and is too slow: it looks at one byte at a
+// time, and the bytes of a state then take five times as long.
 fn is_zero(bytes: &[u8]) -> bool
     ensures { result ≡ all_zero bytes.now }
 {
@@ -143,13 +141,6 @@ fn asks_fits(t: &Tables, n: u8, l: u8) -> bool
     }
 }
 
-// Is it a semaphore at 0?
-fn at_zero(kind: Kind) -> bool
-    ensures { result ≡ at_zero kind }
-{
-    matches!(kind, Kind::Binary(0) | Kind::Counting(0))
-}
-
 // Does all that goes with a process's place fit it: its priority and suspension, the structure that it names, with the
 // size of its ring, and what its parcel holds?
 #[tactic(auto, unfolding(crate::specs::Tested::fits_tested, crate::specs::Tested::place_tested))]
@@ -160,7 +151,7 @@ fn place_fits(t: &Tables, process: Process, holds: Option<u8>) -> bool
         Place::Nowhere => process.priority == 0 && !process.suspended && holds.is_none(),
         Place::Running | Place::Ready => !process.suspended,
         Place::Parked => process.suspended,
-        Place::Waiting(n) => at_zero(kind_at(t, n)),
+        Place::Waiting(n) => matches!(kind_at(t, n), Kind::Binary(0) | Kind::Counting(0)),
         Place::Getting(n, l) => asks_fits(t, n, l) && holds.is_none(),
         Place::Putting(n, l) => asks_fits(t, n, l) && holds == Some(l),
         Place::Asleep(k) => (1..=2147483647).contains(&k),
@@ -198,7 +189,7 @@ fn processes_fit(t: &Tables) -> bool
     (1..=32).all(|p| process_fits(t, p, times[p as usize]))
 }
 
-// Do all parcels?
+// Do all parcels fit?
 fn parcels_fit(t: &Tables) -> bool
     ensures { result ≡ every 32 (λ p. kept_tested (parcel_at t.now.parcels p)) }
 {
@@ -320,16 +311,8 @@ fn heads_of(t: &Tables) -> Heads
     Heads { getters, putters }
 }
 
-// Could neither head of a ring's lines be served?
-#[tactic(auto, unfolding(crate::specs::Tested::neither_goes))]
-fn still_fits(size: u16, held: u16, getter: u8, wants: u8, putter: u8, brings: u8) -> bool
-    ensures { result ≡ neither_goes size held getter wants putter brings }
-{
-    !rings::getter_goes(getter, wants, held) && !rings::putter_goes(putter, brings, held, size)
-}
-
-// The same of structure n, if it is a ring, with these heads.
-#[tactic(auto, unfolding(crate::specs::Tested::rests_by))]
+// Could neither head of the lines of structure n, if it is a ring, be served?
+#[tactic(auto, unfolding(crate::specs::Tested::rests_by, crate::specs::Tested::neither_goes))]
 fn rests(t: &Tables, n: u8, getter: u8, putter: u8) -> bool
     ensures { result ≡ rests_by getter putter t.now (kind_at t.now.structures n) }
 {
@@ -338,7 +321,8 @@ fn rests(t: &Tables, n: u8, getter: u8, putter: u8) -> bool
             let ring = ring_at(t, b);
             let wants = rings::asked_in(process_at(t, getter).place);
             let brings = rings::asked_in(process_at(t, putter).place);
-            still_fits(ring.size, ring.held, getter, wants, putter, brings)
+            !rings::getter_goes(getter, wants, ring.held)
+                && !rings::putter_goes(putter, brings, ring.held, ring.size)
         }
         _ => true,
     }
