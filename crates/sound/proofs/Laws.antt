@@ -35,7 +35,7 @@ use Rattle.rings.specs.Changes.{length_of}
 use Rattle.structures.specs.Structures.{is_in}
 use Rattle.sound.specs.Sound.{bay_of, users, place_at, kind_at, ring_at, parcel_at}
 use Rattle.sound.specs.Deciding.{and_first, and_second}
-use Rattle.sound.specs.Tested.{every, bay_tested, all_zero, clear_tested, all_within, order_tested, off_rings, listings_of, heads_of, stands_in, rests_by, neither_goes, still_tested, stillness_tested, rank_tested, urgency_tested, placed_tested, kept_tested, process_tested, listed_tested, runs_tested, fits_tested}
+use Rattle.sound.specs.Tested.{every, bay_tested, all_zero, clear_tested, all_within, order_tested, off_rings, listings_of, heads_of, stands_in, heads_wait, neither_goes, still_tested, stillness_tested, rank_tested, urgency_tested, placed_tested, kept_tested, process_tested, listed_tested, runs_tested, fits_tested}
 
 -- ---- bytes
 
@@ -292,16 +292,16 @@ head_at : (c : ℕ) (ps : List Process) (order : List ℕ) (n : ℕ) → n < 256
 unfolding heads_of
 head_at c ps order n h = get_d_table 256 (λ k. first (keep (stands_in c ps k) order)) n h
 
-still_at : (t : Tables) (n : ℕ) → n < 256 → (kind : Kind) → rests_by (get_or (heads_of 5 t.processes t.order) n 0) (get_or (heads_of 6 t.processes t.order) n 0) t kind ≡ still_tested n t kind
-unfolding rests_by still_tested neither_goes getter_can putter_can getter_goes putter_goes ring_in line stands
+still_at : (t : Tables) (n : ℕ) → n < 256 → (kind : Kind) → heads_wait (get_or (heads_of 5 t.processes t.order) n 0) (get_or (heads_of 6 t.processes t.order) n 0) t kind ≡ still_tested n t kind
+unfolding heads_wait still_tested neither_goes getter_can putter_can getter_goes putter_goes ring_in line stands
 still_at t n h (Ring b) = rw (head_at 5 t.processes t.order n h, head_at 6 t.processes t.order n h, length_at t (first (keep (stands_in 5 t.processes n) t.order)), length_at t (first (keep (stands_in 6 t.processes n) t.order)))
 still_at t n h _ = refl
 
 pub still_told : (t : Tables) {getters putters : List ℕ} → getters ≡ heads_of 5 t.processes t.order → putters ≡ heads_of 6 t.processes t.order
-    → list_all (λ n. rests_by (get_or getters n 0) (get_or putters n 0) t (kind_at t.structures n)) (range_with_len 1 24) ≡ stillness_tested t
+    → list_all (λ n. heads_wait (get_or getters n 0) (get_or putters n 0) t (kind_at t.structures n)) (range_with_len 1 24) ≡ stillness_tested t
 unfolding stillness_tested
 still_told t {getters} {putters} e f =
-    every_number 24 (λ n. rests_by (get_or getters n 0) (get_or putters n 0) t (kind_at t.structures n)) (λ n. still_tested n t (kind_at t.structures n)) (λ n u v. rw (e, f) (still_at t n (omega arith) (kind_at t.structures n)))
+    every_number 24 (λ n. heads_wait (get_or getters n 0) (get_or putters n 0) t (kind_at t.structures n)) (λ n. still_tested n t (kind_at t.structures n)) (λ n u v. rw (e, f) (still_at t n (omega arith) (kind_at t.structures n)))
 
 -- Where nobody is at a ring, no line of a ring has a head, so none could be served
 passes : {A : Type 0} (f : A → Bool) (d : A) (l : List A) → f d ≡ true → list_all f l ≡ true → (p : ℕ) → f (numbered l p d) ≡ true

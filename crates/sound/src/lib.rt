@@ -5,7 +5,7 @@ ghost use Rattle.std.specs.Prelude.{◌+◌, ◌≡◌, ◌≤◌, ◌<◌, leng
 ghost use Rattle.std.specs.List.{list_all};
 ghost use Rattle.arrivals.specs.Order.{count};
 ghost use Rattle.tables.specs.Access.{nobody, nothing, numbered};
-ghost use Rattle.tables.specs.Lines.{is_number, urgency};
+ghost use Rattle.tables.specs.Lines.{urgency};
 ghost use Rattle.sound.specs.Sound.{kind_at, ring_at, parcel_at, bay_of, listings, users};
 ghost use Rattle.sound.specs.Tested.{
   every,
@@ -22,7 +22,7 @@ ghost use Rattle.sound.specs.Tested.{
   clear_tested,
   good_tested,
   bay_tested,
-  rests_by,
+  heads_wait,
   off_rings,
   rank_tested,
   stillness_tested,
@@ -42,19 +42,14 @@ fn is_zero(bytes: &[u8]) -> bool
     bytes.iter().fold(true, |zero, b| zero & (*b == 0))
 }
 
-// Is this a process's number?
-#[tactic(auto, unfolding(tables::specs::Lines::is_number))]
-fn is_number(x: u8) -> bool
-    ensures { result ≡ is_number x }
-{
-    (1..=32).contains(&x)
-}
-
 // Do the zeros of the order stand first, and is no number above 32 listed?
 fn order_fits(order: &[u8; 32]) -> bool
     ensures { result ≡ order_tested order.now }
 {
-    order.iter().skip_while(|x| **x == 0).all(|x| is_number(*x))
+    order
+        .iter()
+        .skip_while(|x| **x == 0)
+        .all(|x| tables::is_number(*x))
 }
 
 // How often each number comes.
@@ -69,38 +64,29 @@ fn counts_of(numbers: &[u8]) -> [u8; 256]
     counts
 }
 
-// The entry with number n, counted from 1; none where there is no such number.
-#[tactic(auto, using(tables::specs::Laws::numbered_zero, tables::specs::Laws::numbered_past, tables::specs::Laws::numbered_at))]
-fn entry<T: Copy>(table: &[T], n: u8, none: T) -> T
-    ensures { result ≡ numbered table.now n none }
-{
-    let listed = 1 <= n && n as usize <= table.len();
-    if listed { table[n as usize - 1] } else { none }
-}
-
 // Process p, its parcel, structure n and the ring in bay b; nobody or nothing where there is no such number.
 fn process_at(t: &Tables, p: u8) -> Process
     ensures { result ≡ numbered t.now.processes p nobody }
 {
-    entry(&t.processes, p, tables::nobody())
+    tables::numbered(&t.processes, p, tables::nobody())
 }
 
 fn parcel_at(t: &Tables, p: u8) -> Parcel
     ensures { result ≡ parcel_at t.now.parcels p }
 {
-    entry(&t.parcels, p, bay::empty_parcel())
+    tables::numbered(&t.parcels, p, bay::empty_parcel())
 }
 
 fn kind_at(t: &Tables, n: u8) -> Kind
     ensures { result ≡ kind_at t.now.structures n }
 {
-    entry(&t.structures, n, tables::nothing()).kind
+    tables::numbered(&t.structures, n, tables::nothing()).kind
 }
 
 fn ring_at(t: &Tables, b: u8) -> Ring
     ensures { result ≡ ring_at t.now.rings b }
 {
-    entry(&t.rings, b, bay::empty_bay())
+    tables::numbered(&t.rings, b, bay::empty_bay())
 }
 
 // The bay of a ring; 0 of any other structure.
@@ -311,10 +297,10 @@ fn heads_of(t: &Tables) -> Heads
     Heads { getters, putters }
 }
 
-// Could neither head of the lines of structure n, if it is a ring, be served?
-#[tactic(auto, unfolding(crate::specs::Tested::rests_by, crate::specs::Tested::neither_goes))]
-fn rests(t: &Tables, n: u8, getter: u8, putter: u8) -> bool
-    ensures { result ≡ rests_by getter putter t.now (kind_at t.now.structures n) }
+// Could neither of these heads of ring n's lines be served? Of another structure there are none.
+#[tactic(auto, unfolding(crate::specs::Tested::heads_wait, crate::specs::Tested::neither_goes))]
+fn heads_wait(t: &Tables, n: u8, getter: u8, putter: u8) -> bool
+    ensures { result ≡ heads_wait getter putter t.now (kind_at t.now.structures n) }
 {
     match kind_at(t, n) {
         Kind::Ring(b) => {
@@ -351,7 +337,7 @@ fn still(t: &Tables) -> bool
         return true;
     }
     let heads = heads_of(t);
-    (1..=24).all(|n| rests(t, n, heads.getters[n as usize], heads.putters[n as usize]))
+    (1..=24).all(|n| heads_wait(t, n, heads.getters[n as usize], heads.putters[n as usize]))
 }
 
 // How urgent the runner is; 0 where nobody runs.
