@@ -1,7 +1,8 @@
 -- What the code's chains and loops see: each of a list, each number, how often one comes, who heads a line.
 use Rattle.std.specs.Prelude.{ℕ, zero, suc, ◌+◌, ◌-◌, ◌≤◌, ◌<◌, ◌≡◌, refl, Bool, true, false, cond, not, ◌&&◌, List, [], ◌∷◌, map, eqb, leb, length, get_or, set, drop, take, replicate}
-use Rattle.std.proofs.Common.{sym, ap, ◌∙◌, true≢false, arith, add-one, take-suc, drop-cons, drop_of_length-le, length-take-le, length-drop, get_or-drop}
-use Rattle.std.proofs.lemmas.List.{length-replicate, get_or-replicate}
+use Rattle.std.proofs.Common.{sym, ap, ◌∙◌, true≢false, arith, add-one, take-suc, length-take-le, length-drop, get_or-drop}
+use Rattle.std.proofs.lemmas.List.{length-replicate, get_or-replicate, map-append, reverse-append}
+use Rattle.std.proofs.Common.{Bor, ◌++◌, reverse}
 use Rattle.std.proofs.Math.Bool.{and-true, and_assoc}
 use Rattle.std.proofs.lemmas.Slice.{between_is, between_to_end}
 use Rattle.std.proofs.lemmas.Slice.Zip.{length-zip, get_or-zip}
@@ -211,28 +212,25 @@ counted_few l i p h small = rw (counted_at (take i l) p small) (omega (arith, co
 same_table : (f g : ℕ → ℕ) → ((k : ℕ) → g k ≡ f k) → table 256 f ≡ table 256 g
 same_table f g e = tabled 256 g (table 256 f) (length_table 256 f) (λ i y. get_d_table 256 f i y ∙ sym (e i))
 
--- the list from the place before i on
-back : (l : List ℕ) (i : ℕ) → 0 < i → i ≤ length l → drop (i - 1) l ≡ get_or l (i - 1) 0 ∷ drop i l
-back l i h k =
-    let same : suc (i - 1) ≡ i = omega arith in
-    drop-cons l (i - 1) 0 (omega arith) ∙ rw same
-
-pub no_heads : (c : ℕ) (ps : List Process) (order : List ℕ) (n : ℕ) → length order ≤ n → replicate {A = ℕ} 256 0 ≡ heads_of c ps (drop n order)
+pub no_heads : (c : ℕ) (ps : List Process) → replicate {A = ℕ} 256 0 ≡ heads_of c ps []
 unfolding heads_of
-no_heads c ps order n h = rw (drop_of_length-le order {i = n} h) (blank (λ k. 0) (λ k. refl))
+no_heads c ps = blank (λ k. 0) (λ k. refl)
 
-module _ (ps : List Process) (order : List ℕ) (i : ℕ) (there : 0 < i) (within : i ≤ length order) (c : ℕ) where
-  pub head_noted : (n : ℕ) {heads : List ℕ} → heads ≡ heads_of c ps (drop i order) → code (place_at ps (get_or order (i - 1) 0)) ≡ c → spot (place_at ps (get_or order (i - 1) 0)) ≡ n → n < 256
-      → set heads n (get_or order (i - 1) 0) ≡ heads_of c ps (drop (i - 1) order)
+-- one more has come, from the last back
+turned : (xs : List (Bor ℕ)) (x : Bor ℕ) → reverse (map (λ y. y.now) (xs ++ x ∷ [])) ≡ x.now ∷ reverse (map (λ y. y.now) xs)
+turned xs x = simp (map-append, reverse-append)
+
+module _ (c : ℕ) (ps : List Process) (xs : List (Bor ℕ)) (x : Bor ℕ) where
+  pub head_noted : (n : ℕ) {heads : List ℕ} → heads ≡ heads_of c ps (reverse (map (λ y. y.now) xs)) → code (place_at ps x.now) ≡ c → spot (place_at ps x.now) ≡ n → n < 256 → set heads n x.now ≡ heads_of c ps (reverse (map (λ y. y.now) (xs ++ x ∷ [])))
   unfolding heads_of
   head_noted n e is at small =
-      rw (e, back order i there within) (set_table 256 _ _ n _ small
+      rw (e, turned xs x) (set_table 256 _ _ n _ small
       (rw (eq-eqb _ c is, eq-eqb _ n at) refl)
       (λ k ne. rw (eq-eqb _ c is, ne_eqb _ k (λ q. ne (sym q ∙ at))) refl))
 
-  pub head_kept : {heads : List ℕ} → heads ≡ heads_of c ps (drop i order) → (code (place_at ps (get_or order (i - 1) 0)) ≡ c → ⊥) → heads ≡ heads_of c ps (drop (i - 1) order)
+  pub head_kept : {heads : List ℕ} → heads ≡ heads_of c ps (reverse (map (λ y. y.now) xs)) → (code (place_at ps x.now) ≡ c → ⊥) → heads ≡ heads_of c ps (reverse (map (λ y. y.now) (xs ++ x ∷ [])))
   unfolding heads_of
-  head_kept e off = e ∙ rw (back order i there within) (same_table _ _ (λ k. rw (ne_eqb _ c off) refl))
+  head_kept e off = e ∙ rw (turned xs x) (same_table _ _ (λ k. rw (ne_eqb _ c off) refl))
 
 -- neither getting nor putting: a place has neither of the two numbers
 pub off_ring : (x : Place) → ((n l : ℕ) → x ≡ Getting n l → ⊥) → ((n l : ℕ) → x ≡ Putting n l → ⊥) → (code x ≡ 5 → ⊥) × (code x ≡ 6 → ⊥)

@@ -6,7 +6,7 @@ ghost use Rattle.std.specs.List.{list_all};
 ghost use Rattle.arrivals.specs.Order.{count};
 ghost use Rattle.tables.specs.Access.{nobody, nothing, numbered};
 ghost use Rattle.tables.specs.Lines.{urgency};
-ghost use Rattle.sound.specs.Sound.{kind_at, ring_at, parcel_at, bay_of, listings, users};
+ghost use Rattle.sound.specs.Sound.{kind_at, ring_at, parcel_at, bay_of, users};
 ghost use Rattle.sound.specs.Tested.{
   every,
   all_zero,
@@ -106,16 +106,6 @@ fn bays_of(structures: &[Structure; 24]) -> [u8; 24]
     structures.map(|s| bay_of(s.kind))
 }
 
-// How often a process in this place is to be listed.
-fn listings_in(place: Place) -> u8
-    ensures { result ≡ listings place }
-{
-    match place {
-        Place::Nowhere => 0,
-        _ => 1,
-    }
-}
-
 // Is structure n a ring of at least this length, and the length 1 to 64?
 #[tactic(auto, unfolding(crate::specs::Tested::asks_tested))]
 fn asks_fits(t: &Tables, n: u8, l: u8) -> bool
@@ -162,8 +152,8 @@ fn process_fits(t: &Tables, p: u8, times: u8) -> bool
     ensures { result ≡ placed_tested times t.now p }
 {
     let process = process_at(t, p);
-    times == listings_in(process.place)
-        && (t.running == p) == matches!(process.place, Place::Running)
+    times == u8::from(process.place != Place::Nowhere)
+        && (t.running == p) == (process.place == Place::Running)
         && place_fits(t, process, parcel_at(t, p).holds)
 }
 
@@ -286,11 +276,10 @@ fn heads_of(t: &Tables) -> Heads
 {
     let mut getters = [0; 256];
     let mut putters = [0; 256];
-    for i in (0..32).rev() {
-        let x = t.order[i];
-        match process_at(t, x).place {
-            Place::Getting(n, _) => getters[n as usize] = x,
-            Place::Putting(n, _) => putters[n as usize] = x,
+    for x in t.order.iter().rev() {
+        match process_at(t, *x).place {
+            Place::Getting(n, _) => getters[n as usize] = *x,
+            Place::Putting(n, _) => putters[n as usize] = *x,
             _ => {}
         }
     }
@@ -356,7 +345,7 @@ fn runner_urgency(t: &Tables) -> u16
 fn rank_fits(top: u16, process: Process) -> bool
     ensures { result ≡ rank_tested top (process.priority + 1) process.place }
 {
-    !matches!(process.place, Place::Ready) || (process.priority as u16) < top
+    process.place != Place::Ready || (process.priority as u16) < top
 }
 
 // Does nobody who is ready rank higher than the runner?

@@ -1,46 +1,55 @@
-use Rattle.std.proofs.Common.{rules, ◌≡◌, ◌∙◌, sym, ap, ◌-◌, length, get_or, arith}
-use Rattle.basics.specs.Lists.{len_map}
+use Rattle.std.proofs.Common.{rules, ◌≡◌, ◌∙◌, sym, ap, map, reverse, arith}
+use Rattle.std.proofs.lemmas.List.{reverse-reverse}
+use Rattle.std.proofs.lemmas.Iterator.Adapters.{YieldsList-from_rev_slice}
+use Rattle.std.proofs.lemmas.Iterator.Consumers.{YieldsList-end}
 use Rattle.tables.specs.declared.Process.{Process}
 use Rattle.tables.specs.declared.Place.TheVariants.{Getting, Putting}
 use Rattle.tables.specs.Numbers.{code, spot}
 use Rattle.sound.specs.Sound.{place_at}
+use Rattle.sound.specs.Tested.{heads_of}
 use Rattle.sound.proofs.Laws.{no_heads, head_noted, head_kept, off_ring}
 use Rattle.sound.proofs.heads_of.Goals as goal
 
-pub loop-i-init : goal.loop-i-init
-loop-i-init c =
-    let long : length c.args.t.now.order ≡ 32 = search (len_map, rules) in
-    record { getters = no_heads 5 c.args.t.now.processes c.args.t.now.order 32 (omega arith); putters = no_heads 6 c.args.t.now.processes c.args.t.now.order 32 (omega arith) }
+pub loop-x-init : goal.loop-x-init
+loop-x-init c = record { getters = no_heads 5 c.args.t.now.processes; putters = no_heads 6 c.args.t.now.processes }
 
-pub loop-i-preserved-in-Getting : goal.loop-i-preserved-in-Getting
-loop-i-preserved-in-Getting c =
-    let t = c.args.t.now in
-    let l = c.loop-i in
-    let long : length t.order ≡ 32 = search (len_map, rules) in
-    let at : place_at t.processes (get_or t.order (l.i - 1) 0) ≡ Getting c.in-Getting.n c.in-Getting.field-1 = ap (λ (q : Process). q.place) (sym c.process_at.ensures) ∙ c.in-Getting.is in
+pub loop-x-preserved-in-Getting : goal.loop-x-preserved-in-Getting
+loop-x-preserved-in-Getting c =
+    let l = c.loop-x in
+    let at : place_at c.args.t.now.processes c.in-Some.x.now ≡ Getting c.in-Getting.n c.in-Getting.field-1 = ap (λ (q : Process). q.place) (sym c.process_at.ensures) ∙ c.in-Getting.is in
     record {
-      getters = head_noted t.processes t.order l.i (omega arith) (omega arith) 5 c.in-Getting.n l.invariant.getters (ap code at) (ap spot at) (search rules);
-      putters = head_kept t.processes t.order l.i (omega arith) (omega arith) 6 l.invariant.putters (λ e. omega (arith, ap code at));
+      getters = head_noted _ _ l.yielded c.in-Some.x c.in-Getting.n l.invariant.getters (ap code at) (ap spot at) (search rules);
+      putters = head_kept _ _ l.yielded c.in-Some.x l.invariant.putters (λ e. omega (arith, ap code at));
     }
 
-pub loop-i-preserved-in-Putting : goal.loop-i-preserved-in-Putting
-loop-i-preserved-in-Putting c =
-    let t = c.args.t.now in
-    let l = c.loop-i in
-    let long : length t.order ≡ 32 = search (len_map, rules) in
-    let at : place_at t.processes (get_or t.order (l.i - 1) 0) ≡ Putting c.in-Putting.n c.in-Putting.field-1 = ap (λ (q : Process). q.place) (sym c.process_at.ensures) ∙ c.in-Putting.is in
+pub loop-x-preserved-in-Putting : goal.loop-x-preserved-in-Putting
+loop-x-preserved-in-Putting c =
+    let l = c.loop-x in
+    let at : place_at c.args.t.now.processes c.in-Some.x.now ≡ Putting c.in-Putting.n c.in-Putting.field-1 = ap (λ (q : Process). q.place) (sym c.process_at.ensures) ∙ c.in-Putting.is in
     record {
-      getters = head_kept t.processes t.order l.i (omega arith) (omega arith) 5 l.invariant.getters (λ e. omega (arith, ap code at));
-      putters = head_noted t.processes t.order l.i (omega arith) (omega arith) 6 c.in-Putting.n l.invariant.putters (ap code at) (ap spot at) (search rules);
+      getters = head_kept _ _ l.yielded c.in-Some.x l.invariant.getters (λ e. omega (arith, ap code at));
+      putters = head_noted _ _ l.yielded c.in-Some.x c.in-Putting.n l.invariant.putters (ap code at) (ap spot at) (search rules);
     }
 
-pub loop-i-preserved : goal.loop-i-preserved
-loop-i-preserved c =
-    let t = c.args.t.now in
-    let l = c.loop-i in
-    let long : length t.order ≡ 32 = search (len_map, rules) in
+pub loop-x-preserved : goal.loop-x-preserved
+loop-x-preserved c =
+    let l = c.loop-x in
     let off = rw c.process_at.ensures at (off_ring c.process_at.result.place c.in_default.not-Getting c.in_default.not-Putting) in
     record {
-      getters = head_kept t.processes t.order l.i (omega arith) (omega arith) 5 l.invariant.getters off.0;
-      putters = head_kept t.processes t.order l.i (omega arith) (omega arith) 6 l.invariant.putters off.1;
+      getters = head_kept _ _ l.yielded c.in-Some.x l.invariant.getters off.0;
+      putters = head_kept _ _ l.yielded c.in-Some.x l.invariant.putters off.1;
     }
+
+-- in the end all have come
+all_come : (c : goal.In-None) → reverse (map (λ x. x.now) c.loop-x.yielded) ≡ c.args.t.now.order
+all_come c =
+    let l = c.loop-x in
+    let order = c.args.t.now.order in
+    let end = YieldsList-end (YieldsList-from_rev_slice order (cc)) l.yielded l.x-iterator l.yielded_by c.next.result c.next.new.self c.in-None.is c.next.ensures.steps in
+    ap reverse end.0 ∙ reverse-reverse order
+
+pub returns-clause-getters : goal.returns-clause-getters
+returns-clause-getters c = c.loop-x.invariant.getters ∙ ap (heads_of 5 c.args.t.now.processes) (all_come c)
+
+pub returns-clause-putters : goal.returns-clause-putters
+returns-clause-putters c = c.loop-x.invariant.putters ∙ ap (heads_of 6 c.args.t.now.processes) (all_come c)
