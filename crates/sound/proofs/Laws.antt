@@ -4,6 +4,7 @@ use Rattle.std.proofs.Common.{sym, ap, ◌∙◌, true≢false, arith, add-one, 
 use Rattle.std.proofs.lemmas.List.{length-replicate, get_or-replicate, map-append, reverse-append}
 use Rattle.std.proofs.Common.{Bor, ◌++◌, reverse}
 use Rattle.std.proofs.Math.Bool.{and-true, and_assoc}
+use Rattle.std.proofs.Math.ListN.{get_or-map}
 use Rattle.std.proofs.lemmas.Slice.{between_is, between_to_end}
 use Rattle.std.proofs.lemmas.Slice.Zip.{length-zip, get_or-zip}
 use Rattle.std.specs.List.{between, fold, list_all, prefix_len, range_with_len, zip}
@@ -35,6 +36,7 @@ use Rattle.rings.specs.Serving.{asked, lengths_of, length_for, getter_goes, putt
 use Rattle.rings.specs.Changes.{length_of}
 use Rattle.structures.specs.Structures.{is_in}
 use Rattle.sound.specs.Sound.{bay_of, users, place_at, kind_at, ring_at, parcel_at}
+use Rattle.sound.specs.declared.Heads.{Heads}
 use Rattle.sound.specs.Deciding.{and_first, and_second}
 use Rattle.sound.specs.Tested.{every, bay_tested, all_zero, clear_tested, all_within, order_tested, off_rings, listings_of, heads_of, stands_in, heads_wait, neither_goes, still_tested, stillness_tested, rank_tested, urgency_tested, placed_tested, kept_tested, process_tested, listed_tested, runs_tested, fits_tested}
 
@@ -281,6 +283,10 @@ bays_told structures rings {uses} few e =
 
 -- ---- the heads of the rings' lines
 
+-- nobody heads a line
+abbrev pub no_head : Heads
+no_head = record { getter = 0; putter = 0 }
+
 -- The length of process p
 length_at : (t : Tables) (p : ℕ) → length_for (lengths_of t) p ≡ asked (place_at t.processes p)
 unfolding process_of
@@ -295,11 +301,15 @@ unfolding heads_wait still_tested neither_goes getter_can putter_can getter_goes
 still_at t n h (Ring b) = rw (head_at 5 t.processes t.order n h, head_at 6 t.processes t.order n h, length_at t (first (keep (stands_in 5 t.processes n) t.order)), length_at t (first (keep (stands_in 6 t.processes n) t.order)))
 still_at t n h _ = refl
 
-pub still_told : (t : Tables) {getters putters : List ℕ} → getters ≡ heads_of 5 t.processes t.order → putters ≡ heads_of 6 t.processes t.order
-    → list_all (λ n. heads_wait (get_or getters n 0) (get_or putters n 0) t (kind_at t.structures n)) (range_with_len 1 24) ≡ stillness_tested t
+pub still_told : (t : Tables) (heads : List Heads) → map (λ x. x.getter) heads ≡ heads_of 5 t.processes t.order → map (λ x. x.putter) heads ≡ heads_of 6 t.processes t.order
+    → list_all (λ n. heads_wait (get_or heads n no_head).getter (get_or heads n no_head).putter t (kind_at t.structures n)) (range_with_len 1 24) ≡ stillness_tested t
 unfolding stillness_tested
-still_told t {getters} {putters} e f =
-    every_number 24 (λ n. heads_wait (get_or getters n 0) (get_or putters n 0) t (kind_at t.structures n)) (λ n. still_tested n t (kind_at t.structures n)) (λ n u v. rw (e, f) (still_at t n (omega arith) (kind_at t.structures n)))
+still_told t heads e f =
+    every_number 24 (λ n. heads_wait (get_or heads n no_head).getter (get_or heads n no_head).putter t (kind_at t.structures n)) (λ n. still_tested n t (kind_at t.structures n))
+    (λ n u v.
+    let getter : (get_or heads n no_head).getter ≡ get_or (heads_of 5 t.processes t.order) n 0 = sym (get_or-map (λ (x : Heads). x.getter) heads n no_head) ∙ ap (λ (l : List ℕ). get_or l n 0) e in
+    let putter : (get_or heads n no_head).putter ≡ get_or (heads_of 6 t.processes t.order) n 0 = sym (get_or-map (λ (x : Heads). x.putter) heads n no_head) ∙ ap (λ (l : List ℕ). get_or l n 0) f in
+    rw (getter, putter) (still_at t n (omega arith) (kind_at t.structures n)))
 
 -- Where nobody is at a ring, no line of a ring has a head, so none could be served
 passes : {A : Type 0} (f : A → Bool) (d : A) (l : List A) → f d ≡ true → list_all f l ≡ true → (p : ℕ) → f (numbered l p d) ≡ true

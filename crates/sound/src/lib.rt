@@ -262,42 +262,44 @@ fn settled(t: &Tables) -> bool
         && bays_fit(t)
 }
 
-// The head getters and the head putters, each at the number of its ring.
+// The head getter and the head putter of a ring's lines, or nobody.
 #[derive(Clone, Copy)]
 struct Heads {
-    getters: [u8; 256],
-    putters: [u8; 256],
+    getter: u8,
+    putter: u8,
 }
 
-// The heads of all rings' lines: from the last back, so that the first one stays.
-fn heads_of(t: &Tables) -> Heads
-    ensures getters { result.getters ≡ heads_of 5 t.now.processes t.now.order }
-    ensures putters { result.putters ≡ heads_of 6 t.now.processes t.now.order }
+// The heads of all rings' lines, each at the number of its ring: from the last back, so that the first one stays.
+fn heads_of(t: &Tables) -> [Heads; 256]
+    ensures getters { map (λ x. x.getter) result ≡ heads_of 5 t.now.processes t.now.order }
+    ensures putters { map (λ x. x.putter) result ≡ heads_of 6 t.now.processes t.now.order }
 {
-    let mut getters = [0; 256];
-    let mut putters = [0; 256];
+    let mut heads = [Heads {
+        getter: 0,
+        putter: 0,
+    }; 256];
     for x in t.order.iter().rev() {
         match process_at(t, *x).place {
-            Place::Getting(n, _) => getters[n as usize] = *x,
-            Place::Putting(n, _) => putters[n as usize] = *x,
+            Place::Getting(n, _) => heads[n as usize].getter = *x,
+            Place::Putting(n, _) => heads[n as usize].putter = *x,
             _ => {}
         }
     }
-    Heads { getters, putters }
+    heads
 }
 
 // Could neither of these heads of ring n's lines be served? Of another structure there are none.
 #[tactic(auto, unfolding(crate::specs::Tested::heads_wait, crate::specs::Tested::neither_goes))]
-fn heads_wait(t: &Tables, n: u8, getter: u8, putter: u8) -> bool
-    ensures { result ≡ heads_wait getter putter t.now (kind_at t.now.structures n) }
+fn heads_wait(t: &Tables, n: u8, heads: Heads) -> bool
+    ensures { result ≡ heads_wait heads.getter heads.putter t.now (kind_at t.now.structures n) }
 {
     match kind_at(t, n) {
         Kind::Ring(b) => {
             let ring = ring_at(t, b);
-            let wants = rings::asked_in(process_at(t, getter).place);
-            let brings = rings::asked_in(process_at(t, putter).place);
-            !rings::getter_goes(getter, wants, ring.held)
-                && !rings::putter_goes(putter, brings, ring.held, ring.size)
+            let wants = rings::asked_in(process_at(t, heads.getter).place);
+            let brings = rings::asked_in(process_at(t, heads.putter).place);
+            !rings::getter_goes(heads.getter, wants, ring.held)
+                && !rings::putter_goes(heads.putter, brings, ring.held, ring.size)
         }
         _ => true,
     }
@@ -326,7 +328,7 @@ fn still(t: &Tables) -> bool
         return true;
     }
     let heads = heads_of(t);
-    (1..=24).all(|n| heads_wait(t, n, heads.getters[n as usize], heads.putters[n as usize]))
+    (1..=24).all(|n| heads_wait(t, n, heads[n as usize]))
 }
 
 // How urgent the runner is; 0 where nobody runs.

@@ -1,13 +1,15 @@
-use Rattle.std.proofs.Common.{rules, ◌≡◌, ◌∙◌, sym, ap, map, reverse, arith}
-use Rattle.std.proofs.lemmas.List.{reverse-reverse}
+use Rattle.std.proofs.Common.{rules, ◌≡◌, ◌∙◌, sym, ap, refl, map, reverse, arith}
+use Rattle.std.proofs.lemmas.List.{map-set, reverse-reverse}
 use Rattle.std.proofs.lemmas.Iterator.Adapters.{YieldsList-from_rev_slice}
 use Rattle.std.proofs.lemmas.Iterator.Consumers.{YieldsList-end}
+use Rattle.std.proofs.Math.Seq.{map-set_same}
+use Rattle.sound.specs.declared.Heads.{Heads}
 use Rattle.tables.specs.declared.Process.{Process}
 use Rattle.tables.specs.declared.Place.TheVariants.{Getting, Putting}
 use Rattle.tables.specs.Numbers.{code, spot}
 use Rattle.sound.specs.Sound.{place_at}
 use Rattle.sound.specs.Tested.{heads_of}
-use Rattle.sound.proofs.Laws.{no_heads, head_noted, head_kept, off_ring}
+use Rattle.sound.proofs.Laws.{no_head, no_heads, head_noted, head_kept, off_ring}
 use Rattle.sound.proofs.heads_of.Goals as goal
 
 pub loop-x-init : goal.loop-x-init
@@ -18,8 +20,8 @@ loop-x-preserved-in-Getting c =
     let l = c.loop-x in
     let at : place_at c.args.t.now.processes c.in-Some.x.now ≡ Getting c.in-Getting.n c.in-Getting.field-1 = ap (λ (q : Process). q.place) (sym c.process_at.ensures) ∙ c.in-Getting.is in
     record {
-      getters = head_noted _ _ l.yielded c.in-Some.x c.in-Getting.n l.invariant.getters (ap code at) (ap spot at) (search rules);
-      putters = head_kept _ _ l.yielded c.in-Some.x l.invariant.putters (λ e. omega (arith, ap code at));
+      getters = map-set (λ (h : Heads). h.getter) l.heads c.in-Getting.n _ ∙ head_noted _ _ l.yielded c.in-Some.x c.in-Getting.n l.invariant.getters (ap code at) (ap spot at) (search rules);
+      putters = map-set_same (λ (h : Heads). h.putter) l.heads c.in-Getting.n _ no_head refl ∙ head_kept _ _ l.yielded c.in-Some.x l.invariant.putters (λ e. omega (arith, ap code at));
     }
 
 pub loop-x-preserved-in-Putting : goal.loop-x-preserved-in-Putting
@@ -27,8 +29,8 @@ loop-x-preserved-in-Putting c =
     let l = c.loop-x in
     let at : place_at c.args.t.now.processes c.in-Some.x.now ≡ Putting c.in-Putting.n c.in-Putting.field-1 = ap (λ (q : Process). q.place) (sym c.process_at.ensures) ∙ c.in-Putting.is in
     record {
-      getters = head_kept _ _ l.yielded c.in-Some.x l.invariant.getters (λ e. omega (arith, ap code at));
-      putters = head_noted _ _ l.yielded c.in-Some.x c.in-Putting.n l.invariant.putters (ap code at) (ap spot at) (search rules);
+      getters = map-set_same (λ (h : Heads). h.getter) l.heads c.in-Putting.n _ no_head refl ∙ head_kept _ _ l.yielded c.in-Some.x l.invariant.getters (λ e. omega (arith, ap code at));
+      putters = map-set (λ (h : Heads). h.putter) l.heads c.in-Putting.n _ ∙ head_noted _ _ l.yielded c.in-Some.x c.in-Putting.n l.invariant.putters (ap code at) (ap spot at) (search rules);
     }
 
 pub loop-x-preserved : goal.loop-x-preserved

@@ -5,6 +5,6 @@ use Rattle.sound.proofs.heads_of.Given as goal
 
 abbrev pub invariant-loop-x : goal.invariant-loop-x
 invariant-loop-x l = record {
-  getters : l.getters ≡ heads_of 5 l.t.processes (reverse (map (λ x. x.now) l.yielded));
-  putters : l.putters ≡ heads_of 6 l.t.processes (reverse (map (λ x. x.now) l.yielded));
+  getters : map (λ x. x.getter) l.heads ≡ heads_of 5 l.t.processes (reverse (map (λ x. x.now) l.yielded));
+  putters : map (λ x. x.putter) l.heads ≡ heads_of 6 l.t.processes (reverse (map (λ x. x.now) l.yielded));
 }
