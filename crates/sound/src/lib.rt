@@ -64,17 +64,11 @@ fn counts_of(numbers: &[u8]) -> [u8; 256]
     counts
 }
 
-// Process p, its parcel, structure n and the ring in bay b; nobody or nothing where there is no such number.
+// Process p, what structure n is, and the ring in bay b; nobody, free or an empty bay where there is no such number.
 fn process_at(t: &Tables, p: u8) -> Process
     ensures { result ≡ numbered t.now.processes p nobody }
 {
     tables::numbered(&t.processes, p, tables::nobody())
-}
-
-fn parcel_at(t: &Tables, p: u8) -> Parcel
-    ensures { result ≡ parcel_at t.now.parcels p }
-{
-    tables::numbered(&t.parcels, p, bay::empty_parcel())
 }
 
 fn kind_at(t: &Tables, n: u8) -> Kind
@@ -152,9 +146,10 @@ fn process_fits(t: &Tables, p: u8, times: u8) -> bool
     ensures { result ≡ placed_tested times t.now p }
 {
     let process = process_at(t, p);
+    let parcel = tables::numbered(&t.parcels, p, bay::empty_parcel());
     times == u8::from(process.place != Place::Nowhere)
         && (t.running == p) == (process.place == Place::Running)
-        && place_fits(t, process, parcel_at(t, p).holds)
+        && place_fits(t, process, parcel.holds)
 }
 
 // Do all processes fit?
@@ -169,7 +164,7 @@ fn processes_fit(t: &Tables) -> bool
 fn parcels_fit(t: &Tables) -> bool
     ensures { result ≡ every 32 (λ p. kept_tested (parcel_at t.now.parcels p)) }
 {
-    t.parcels.iter().all(|x| parcel_fits(x))
+    t.parcels.iter().all(parcel_fits)
 }
 
 // Is a structure's value, or its bay, in range?
