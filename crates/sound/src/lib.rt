@@ -1,205 +1,86 @@
-// Sound: the test of whole tables. A loop looks at one process, structure or bay each turn, and stops at none.
+// Sound: the test of whole tables.
 #![tactic(auto)]
 
-ghost use Rattle.std.specs.Prelude.{◌+◌, ◌%◌, ◌≤◌, ◌<◌, ◌≡◌, ◌&&◌, cond, false, eqb, length, true};
-ghost use Rattle.std.proofs.Math.Seq.{slice};
-ghost use Rattle.bay.specs.Bay.{in_range};
-ghost use Rattle.tables.specs.Lines.{is_number, urgency};
-ghost use Rattle.tables.specs.Numbers.{code};
-ghost use Rattle.tables.specs.declared.Kind.TheVariants as kinds;
-ghost use Rattle.sound.specs.Sound.{place_at, kind_at, ring_at, bay_of, listings, users};
+ghost use Rattle.std.specs.Prelude.{◌+◌, ◌≡◌, ◌≤◌, ◌<◌, length, map};
+ghost use Rattle.std.specs.List.{list_all};
+ghost use Rattle.arrivals.specs.Order.{count};
+ghost use Rattle.tables.specs.Access.{nobody, nothing, numbered};
+ghost use Rattle.tables.specs.Lines.{urgency};
+ghost use Rattle.sound.specs.Sound.{kind_at, ring_at, parcel_at, bay_of, users};
 ghost use Rattle.sound.specs.Tested.{
   every,
   all_zero,
   order_tested,
   listings_of,
-  users_of,
   heads_of,
-  named,
-  rank_of,
-  listed_tested,
-  runs_tested,
-  at_zero,
   asks_tested,
-  holds_nothing,
-  holds_bytes,
-  place_tested,
+  fits_tested,
   kept_tested,
-  entry_tested,
+  placed_tested,
   value_tested,
   empty_tested,
   clear_tested,
   good_tested,
   bay_tested,
-  sizes_of,
-  held_of,
-  neither_goes,
-  rests_at,
+  heads_wait,
   off_rings,
   rank_tested,
-  ranks_at,
+  stillness_tested,
+  urgency_tested,
+  settled_tested,
   sound_b,
 };
 
 use bay::{Parcel, Ring};
 use tables::{Kind, Place, Process, Structure, Tables};
 
-// Are the bytes from one place up to another all zero?
-fn zero_between(bytes: &[u8], from: usize, to: usize) -> bool
-    requires { to ≤ length bytes.now }
-    ensures { result ≡ all_zero (slice from to bytes.now) }
+// Are these bytes all zero? It stops at none: `all`, which stops, was tried, and is too slow: it looks at one byte at a
+// time, and the bytes of a state then take five times as long.
+fn is_zero(bytes: &[u8]) -> bool
+    ensures { result ≡ all_zero bytes.now }
 {
-    let mut zero = true;
-    let mut i = from;
-    while i < to {
-        if bytes[i] != 0 {
-            zero = false;
-        }
-        i += 1;
-    }
-    zero
+    bytes.iter().fold(true, |zero, b| zero & (*b == 0))
 }
 
 // Do the zeros of the order stand first, and is no number above 32 listed?
-fn order_fits(order: [u8; 32]) -> bool
-    ensures { result ≡ order_tested order }
+fn order_fits(order: &[u8; 32]) -> bool
+    ensures { result ≡ order_tested order.now }
 {
-    let mut zeros_first = true;
-    let mut zero_behind = false;
-    let mut within = true;
-    let mut i: usize = 32;
-    while 0 < i {
-        i -= 1;
-        let x = order[i];
-        within = (x <= 32) & within;
-        if x == 0 {
-            zero_behind = true;
-        } else {
-            zeros_first = !zero_behind;
-        }
-    }
-    zeros_first & within
+    order
+        .iter()
+        .skip_while(|x| **x == 0)
+        .all(|x| tables::is_number(*x))
 }
 
-// A number as an index.
-fn index_of(x: u8) -> usize
-    ensures { (result ≡ x) × (result < 256) }
+// How often each number comes.
+fn counts_of(numbers: &[u8]) -> [u8; 256]
+    requires { length numbers.now < 256 }
+    ensures { result ≡ listings_of numbers.now }
 {
-    x as usize
+    let mut counts = [0; 256];
+    for x in numbers {
+        counts[*x as usize] += 1;
+    }
+    counts
 }
 
-// How often each number is listed.
-fn listings_of(order: [u8; 32]) -> [u8; 256]
-    ensures { result ≡ listings_of order }
+// Process p, what structure n is, and the ring in bay b; nobody, free or an empty bay where there is no such number.
+fn process_at(t: &Tables, p: u8) -> Process
+    ensures { result ≡ numbered t.now.processes p nobody }
 {
-    let mut times = [0u8; 256];
-    let mut i: usize = 32;
-    while 0 < i {
-        i -= 1;
-        let x = index_of(order[i]);
-        times[x] = times[x] + 1;
-    }
-    times
+    tables::numbered(&t.processes, p, tables::nobody())
 }
 
-// How many rings each bay has.
-fn users_of(structures: [Structure; 24]) -> [u8; 256]
-    ensures { result ≡ users_of structures }
+fn kind_at(t: &Tables, n: u8) -> Kind
+    ensures { result ≡ kind_at t.now.structures n }
 {
-    let mut users = [0u8; 256];
-    let mut i: usize = 24;
-    while 0 < i {
-        i -= 1;
-        let structure = structures[i];
-        let kind = structure.kind;
-        if tables::is_ring(kind) {
-            let b = bay_of(kind) as usize;
-            users[b] = users[b] + 1;
-        }
-    }
-    users
+    tables::numbered(&t.structures, n, tables::nothing()).kind
 }
 
-// The head getters and the head putters, each at the number of its ring.
-#[derive(Clone, Copy)]
-struct Heads {
-    getters: [u8; 256],
-    putters: [u8; 256],
-}
-
-// The heads of all rings' lines.
-fn heads_of(processes: [Process; 32], order: [u8; 32]) -> Heads
-    ensures { (result.getters ≡ heads_of 5 processes order) × (result.putters ≡ heads_of 6 processes order) }
+fn ring_at(t: &Tables, b: u8) -> Ring
+    ensures { result ≡ ring_at t.now.rings b }
 {
-    let mut getters = [0u8; 256];
-    let mut putters = [0u8; 256];
-    let mut i: usize = 32;
-    while 0 < i {
-        i -= 1;
-        let x = order[i];
-        let entry = processes[tables::entry_of(x)];
-        let place = entry.place;
-        let n = tables::spot_of(place) as usize;
-        if has_code(x, place, 5) {
-            getters[n] = x;
-        }
-        if has_code(x, place, 6) {
-            putters[n] = x;
-        }
-    }
-    Heads { getters, putters }
-}
-
-// Does x, whose entry has this place, have this place number?
-fn has_code(x: u8, place: Place, c: u8) -> bool
-    ensures { result ≡ cond (is_number x) (eqb (code place) c) false }
-{
-    if x == 0 {
-        return false;
-    }
-    if 32 < x {
-        return false;
-    }
-    tables::code_of(place) == c
-}
-
-// Where structure n and bay b have their entries; a number outside has just some entry.
-fn structure_entry(n: u8) -> usize
-    ensures { result ≡ (n + 23) % 24 }
-{
-    (n as usize + 23) % 24
-}
-
-fn bay_entry(b: u8) -> usize
-    ensures { result ≡ (b + 7) % 8 }
-{
-    (b as usize + 7) % 8
-}
-
-// The kind of structure n, whose entry has this kind.
-fn kind_named(n: u8, kind: Kind) -> Kind
-    ensures { result ≡ named 24 n kind kinds.Free }
-{
-    if n == 0 {
-        return Kind::Free;
-    }
-    if 24 < n {
-        return Kind::Free;
-    }
-    kind
-}
-
-// The size, or the held bytes, of the ring in bay b, whose entry has this number.
-fn amount_named(b: u8, amount: u16) -> u16
-    ensures { result ≡ named 8 b amount 0 }
-{
-    if b == 0 {
-        return 0;
-    }
-    if 8 < b {
-        return 0;
-    }
-    amount
+    tables::numbered(&t.rings, b, bay::empty_bay())
 }
 
 // The bay of a ring; 0 of any other structure.
@@ -207,219 +88,87 @@ fn bay_of(kind: Kind) -> u8
     ensures { result ≡ bay_of kind }
 {
     match kind {
-        Kind::Free => 0,
-        Kind::Binary(_) => 0,
-        Kind::Counting(_) => 0,
         Kind::Ring(b) => b,
+        _ => 0,
     }
 }
 
-// How often a process in this place is to be listed.
-fn listings_in(place: Place) -> u8
-    ensures { result ≡ listings place }
+// The bay of each structure.
+fn bays_of(structures: &[Structure; 24]) -> [u8; 24]
+    ensures { result ≡ map (λ s. bay_of s.kind) structures.now }
 {
-    match place {
-        Place::Nowhere => 0,
-        Place::Running => 1,
-        Place::Ready => 1,
-        Place::Parked => 1,
-        Place::Waiting(_) => 1,
-        Place::Getting(_, _) => 1,
-        Place::Putting(_, _) => 1,
-        Place::Asleep(_) => 1,
+    structures.map(|s| bay_of(s.kind))
+}
+
+// Is structure n a ring of at least this length, and the length 1 to 64?
+#[tactic(auto, unfolding(crate::specs::Tested::asks_tested))]
+fn asks_fits(t: &Tables, n: u8, l: u8) -> bool
+    ensures { result ≡ asks_tested (kind_at t.now.structures n) (ring_at t.now.rings (bay_of (kind_at t.now.structures n))).size l }
+{
+    match kind_at(t, n) {
+        Kind::Ring(b) => (1..=64).contains(&l) && l as u16 <= ring_at(t, b).size,
+        _ => false,
     }
 }
 
-// Is a process in this place, listed so many times, listed as often as it is live?
-fn listed_fits(times: u8, place: Place) -> bool
-    ensures { result ≡ listed_tested times place }
+// Does all that goes with a process's place fit it: its priority and suspension, the structure that it names, with the
+// size of its ring, and what its parcel holds?
+#[tactic(auto, unfolding(crate::specs::Tested::fits_tested, crate::specs::Tested::place_tested))]
+fn place_fits(t: &Tables, process: Process, holds: Option<u8>) -> bool
+    ensures { result ≡ fits_tested t.now.structures t.now.rings process holds }
 {
-    times == listings_in(place)
-}
-
-// Does p run exactly where its place is Running?
-fn runs_fits(running: u8, place: Place, p: u8) -> bool
-    ensures { result ≡ runs_tested running place p }
-{
-    if running == p {
-        return tables::code_of(place) == 1;
+    match process.place {
+        Place::Nowhere => process.priority == 0 && !process.suspended && holds.is_none(),
+        Place::Running | Place::Ready => !process.suspended,
+        Place::Parked => process.suspended,
+        Place::Waiting(n) => matches!(kind_at(t, n), Kind::Binary(0) | Kind::Counting(0)),
+        Place::Getting(n, l) => asks_fits(t, n, l) && holds.is_none(),
+        Place::Putting(n, l) => asks_fits(t, n, l) && holds == Some(l),
+        Place::Asleep(k) => (1..=2147483647).contains(&k),
     }
-    tables::code_of(place) != 1
-}
-
-// Is it a semaphore at 0?
-fn at_zero(kind: Kind) -> bool
-    ensures { result ≡ at_zero kind }
-{
-    match kind {
-        Kind::Free => false,
-        Kind::Binary(v) => v == 0,
-        Kind::Counting(v) => v == 0,
-        Kind::Ring(_) => false,
-    }
-}
-
-// Is it a ring of at least this length, and the length 1 to 64?
-fn asks_fits(kind: Kind, size: u16, l: u8) -> bool
-    ensures { result ≡ asks_tested kind size l }
-{
-    (tables::is_ring(kind) & (1 <= l)) & ((l <= 64) & (l as u16 <= size))
-}
-
-// Does a parcel hold nothing?
-fn holds_nothing(holds: Option<u8>) -> bool
-    ensures { result ≡ holds_nothing holds }
-{
-    match holds {
-        None => true,
-        Some(_) => false,
-    }
-}
-
-// Does it hold exactly so many bytes?
-fn holds_bytes(l: u8, holds: Option<u8>) -> bool
-    ensures { result ≡ holds_bytes l holds }
-{
-    match holds {
-        None => false,
-        Some(k) => k == l,
-    }
-}
-
-// Does all that goes with a process's place fit it: the structure that it names, with the size of its ring, the priority
-// and suspension, and what the parcel holds?
-fn place_fits(kind: Kind, size: u16, process: Process, holds: Option<u8>) -> bool
-    ensures { result ≡ place_tested kind size process holds process.place }
-{
-    let place = process.place;
-    let suspended = process.suspended;
-    match place {
-        Place::Nowhere => ((process.priority == 0) & !suspended) & holds_nothing(holds),
-        Place::Running => !suspended,
-        Place::Ready => !suspended,
-        Place::Parked => suspended,
-        Place::Waiting(_) => at_zero(kind),
-        Place::Getting(_, l) => asks_fits(kind, size, l) & holds_nothing(holds),
-        Place::Putting(_, l) => asks_fits(kind, size, l) & holds_bytes(l, holds),
-        Place::Asleep(k) => (1 <= k) & (k <= 2147483647),
-    }
-}
-
-// Are the bytes of a parcel from this place on all zero?
-fn parcel_is_zero(parcel: Parcel, from: u8) -> bool
-    ensures { result ≡ all_zero (slice from 64 parcel.bytes) }
-{
-    let mut zero = true;
-    let mut i = from as usize;
-    while i < 64 {
-        if parcel.bytes[i] != 0 {
-            zero = false;
-        }
-        i += 1;
-    }
-    zero
 }
 
 // Does a parcel hold nothing, or 1 to 64 bytes, and is the rest zero?
-fn parcel_fits(parcel: Parcel) -> bool
-    ensures { result ≡ kept_tested parcel }
+#[tactic(auto, unfolding(crate::specs::Tested::kept_tested, crate::specs::Tested::kept_as))]
+fn parcel_fits(parcel: &Parcel) -> bool
+    ensures { result ≡ kept_tested parcel.now }
 {
-    let holds = parcel.holds;
-    match holds {
-        None => parcel_is_zero(parcel, 0),
-        Some(l) => {
-            if l == 0 {
-                return false;
-            }
-            if 64 < l {
-                return false;
-            }
-            parcel_is_zero(parcel, l)
-        }
+    match parcel.holds {
+        None => is_zero(&parcel.bytes),
+        Some(l) => (1..=64).contains(&l) && is_zero(&parcel.bytes[l as usize..]),
     }
 }
 
-// How urgent a process of this number and priority is.
-fn rank_of(p: u8, priority: u8) -> u16
-    ensures { result ≡ rank_of p priority }
+// Is process p, which is listed so many times, listed as often as it is live, does it run exactly where its place is
+// Running, and does all that goes with its place fit?
+#[tactic(auto, unfolding(crate::specs::Tested::placed_tested, crate::specs::Tested::listed_tested, crate::specs::Tested::runs_tested))]
+fn process_fits(t: &Tables, p: u8, times: u8) -> bool
+    ensures { result ≡ placed_tested times t.now p }
 {
-    if p == 0 {
-        return 0;
-    }
-    priority as u16 + 1
+    let process = process_at(t, p);
+    let parcel = tables::numbered(&t.parcels, p, bay::empty_parcel());
+    times == u8::from(process.place != Place::Nowhere)
+        && (t.running == p) == (process.place == Place::Running)
+        && place_fits(t, process, parcel.holds)
 }
 
-// Does a process, if it is ready, rank no higher than the runner?
-fn rank_fits(top: u16, rank: u16, place: Place) -> bool
-    ensures { result ≡ rank_tested top rank place }
+// Do all processes fit?
+fn processes_fit(t: &Tables) -> bool
+    ensures { result ≡ every 32 (λ p. placed_tested (count p t.now.order) t.now p) }
 {
-    if tables::code_of(place) != 2 {
-        return true;
-    }
-    rank <= top
+    let times = counts_of(&t.order);
+    (1..=32).all(|p| process_fits(t, p, times[p as usize]))
 }
 
-// The priority of process p, whose entry has this one.
-fn priority_named(p: u8, priority: u8) -> u8
-    ensures { result ≡ named 32 p priority 0 }
+// Do all parcels fit?
+fn parcels_fit(t: &Tables) -> bool
+    ensures { result ≡ every 32 (λ p. kept_tested (parcel_at t.now.parcels p)) }
 {
-    if p == 0 {
-        return 0;
-    }
-    if 32 < p {
-        return 0;
-    }
-    priority
-}
-
-// How urgent the runner is; 0 where nobody runs.
-fn runner_rank(running: u8, processes: [Process; 32]) -> u16
-    ensures { result ≡ urgency processes running }
-{
-    let runner = processes[tables::entry_of(running)];
-    rank_of(running, priority_named(running, runner.priority))
-}
-
-// Do all processes fit: are they listed as often as they are live, does all that goes with their places fit, and does
-// nobody who is ready rank higher than the runner? The sizes are those of the bays.
-fn processes_fit(
-    running: u8,
-    order: [u8; 32],
-    processes: [Process; 32],
-    structures: [Structure; 24],
-    sizes: [u16; 8],
-    parcels: [Parcel; 32],
-) -> bool
-    ensures { result ≡ every 32 (λ p. entry_tested running (listings_of order) processes structures sizes parcels p && ranks_at (urgency processes running) processes p) }
-{
-    let times = listings_of(order);
-    let top = runner_rank(running, processes);
-    let mut ok = true;
-    let mut i: usize = 0;
-    while i < 32 {
-        let process = processes[i];
-        let parcel = parcels[i];
-        let place = process.place;
-        let n = tables::spot_of(place);
-        let structure = structures[structure_entry(n)];
-        let entry = structure.kind;
-        let kind = kind_named(n, entry);
-        let b = bay_of(kind);
-        let size = amount_named(b, sizes[bay_entry(b)]);
-        let listed = listed_fits(times[i + 1], place);
-        let runs = runs_fits(running, place, (i + 1) as u8);
-        let holds = parcel.holds;
-        let fits = place_fits(kind, size, process, holds);
-        let kept = parcel_fits(parcel);
-        let rank = process.priority as u16 + 1;
-        let ranks = rank_fits(top, rank, place);
-        ok = ok & (((listed & runs) & (fits & kept)) & ranks);
-        i += 1;
-    }
-    ok
+    t.parcels.iter().all(parcel_fits)
 }
 
 // Is a structure's value, or its bay, in range?
+#[tactic(auto, unfolding(crate::specs::Tested::value_tested))]
 fn value_fits(kind: Kind) -> bool
     ensures { result ≡ value_tested kind }
 {
@@ -427,189 +176,187 @@ fn value_fits(kind: Kind) -> bool
         Kind::Free => true,
         Kind::Binary(v) => v <= 1,
         Kind::Counting(v) => v <= 32767,
-        Kind::Ring(b) => (1 <= b) & (b <= 8),
+        Kind::Ring(b) => (1..=8).contains(&b),
     }
 }
 
 // Are all structures in range?
-fn values_fit(structures: [Structure; 24]) -> bool
-    ensures { result ≡ every 24 (λ n. value_tested (kind_at structures n)) }
+fn values_fit(t: &Tables) -> bool
+    ensures { result ≡ every 24 (λ n. value_tested (kind_at t.now.structures n)) }
 {
-    let mut ok = true;
-    let mut i: usize = 0;
-    while i < 24 {
-        let structure = structures[i];
-        let kind = structure.kind;
-        ok = ok & value_fits(kind);
-        i += 1;
-    }
-    ok
+    t.structures.iter().all(|s| value_fits(s.kind))
 }
 
 // Is a bay all zero?
-fn bay_is_empty(ring: Ring) -> bool
-    ensures { result ≡ empty_tested ring }
+#[tactic(auto, unfolding(crate::specs::Tested::empty_tested))]
+fn bay_is_empty(ring: &Ring) -> bool
+    ensures { result ≡ empty_tested ring.now }
 {
-    let bytes = ring.bytes;
-    (((ring.start == 0) & (ring.size == 0)) & (ring.held == 0)) & zero_between(&bytes, 0, 256)
+    ring.start == 0 && ring.size == 0 && ring.held == 0 && is_zero(&ring.bytes)
 }
 
 // Is what a ring does not hold zero: before its start and behind its held bytes, round the end?
-fn rest_is_zero(ring: Ring) -> bool
-    requires { in_range ring.start ring.size ring.held ≡ true }
-    ensures { result ≡ clear_tested ring.start ring.size ring.held ring.bytes }
+#[tactic(auto, using(std::proofs::lemmas::Slice::between_is), unfolding(crate::specs::Tested::clear_tested))]
+fn rest_is_zero(ring: &Ring) -> bool
+    requires fits { ring.now.size ≤ 256 }
+    requires begins { ring.now.start < ring.now.size }
+    requires holds { ring.now.held ≤ ring.now.size }
+    ensures { result ≡ clear_tested ring.now.start ring.now.size ring.now.held ring.now.bytes }
 {
-    let bytes = ring.bytes;
     let start = ring.start as usize;
     let size = ring.size as usize;
     let end = start + ring.held as usize;
     if end <= size {
-        return zero_between(&bytes, 0, start) & zero_between(&bytes, end, 256);
+        is_zero(&ring.bytes[..start]) && is_zero(&ring.bytes[end..])
+    } else {
+        is_zero(&ring.bytes[end - size..start]) && is_zero(&ring.bytes[size..])
     }
-    let round = end - size;
-    zero_between(&bytes, round, start) & zero_between(&bytes, size, 256)
 }
 
 // Is it a good ring?
-fn ring_is_good(ring: Ring) -> bool
-    ensures { result ≡ good_tested ring }
+#[tactic(auto, using(bay::specs::Laws::in_range_true), unfolding(crate::specs::Tested::good_tested))]
+fn ring_is_good(ring: &Ring) -> bool
+    ensures { result ≡ good_tested ring.now }
 {
-    if !bay::in_range(ring.start, ring.size, ring.held) {
-        return false;
-    }
-    rest_is_zero(ring)
+    bay::in_range(ring.start, ring.size, ring.held) && rest_is_zero(ring)
 }
 
 // Is a bay all zero and no ring's, or a good ring and one structure's?
-fn bay_fits(users: u8, ring: Ring) -> bool
-    ensures { result ≡ bay_tested users ring }
+#[tactic(auto, unfolding(crate::specs::Tested::bay_tested))]
+fn bay_fits(users: u8, ring: &Ring) -> bool
+    ensures { result ≡ bay_tested users ring.now }
 {
-    if users == 0 {
-        return bay_is_empty(ring);
+    match users {
+        0 => bay_is_empty(ring),
+        1 => ring_is_good(ring),
+        _ => false,
     }
-    if users != 1 {
-        return false;
-    }
-    ring_is_good(ring)
 }
 
-// What the test of the bays notes down: whether all fit, and their sizes and held counts.
+// Do all bays fit?
+fn bays_fit(t: &Tables) -> bool
+    ensures { result ≡ every 8 (λ b. bay_tested (users b t.now.structures) (ring_at t.now.rings b)) }
+{
+    let users = counts_of(&bays_of(&t.structures));
+    t.rings
+        .iter()
+        .zip(&users[1..])
+        .all(|(ring, n)| bay_fits(*n, ring))
+}
+
+// Are the tables settled: all but who is to be served, and who is to run?
+#[tactic(auto, using(crate::proofs::Laws::process_parts), unfolding(crate::specs::Tested::settled_tested))]
+fn settled(t: &Tables) -> bool
+    ensures { result ≡ settled_tested t.now }
+{
+    order_fits(&t.order)
+        && t.running <= 32
+        && processes_fit(t)
+        && parcels_fit(t)
+        && values_fit(t)
+        && bays_fit(t)
+}
+
+// The head getter and the head putter of a ring's lines, or nobody.
 #[derive(Clone, Copy)]
-struct Bays {
-    fit: bool,
-    sizes: [u16; 8],
-    held: [u16; 8],
+struct Heads {
+    getter: u8,
+    putter: u8,
 }
 
-// The test of all bays.
-fn bays_of(structures: [Structure; 24], rings: [Ring; 8]) -> Bays
-    ensures { (result.fit ≡ every 8 (λ b. bay_tested (users b structures) (ring_at rings b))) × (result.sizes ≡ sizes_of rings) × (result.held ≡ held_of rings) }
+// The heads of all rings' lines, each at the number of its ring: from the last back, so that the first one stays.
+fn heads_of(t: &Tables) -> [Heads; 256]
+    ensures getters { map (λ x. x.getter) result ≡ heads_of 5 t.now.processes t.now.order }
+    ensures putters { map (λ x. x.putter) result ≡ heads_of 6 t.now.processes t.now.order }
 {
-    let users = users_of(structures);
-    let mut fit = true;
-    let mut sizes = [0u16; 8];
-    let mut held = [0u16; 8];
-    let mut i: usize = 0;
-    while i < 8 {
-        let ring = rings[i];
-        fit = fit & bay_fits(users[i + 1], ring);
-        sizes[i] = ring.size;
-        held[i] = ring.held;
-        i += 1;
+    let mut heads = [Heads {
+        getter: 0,
+        putter: 0,
+    }; 256];
+    for x in t.order.iter().rev() {
+        match process_at(t, *x).place {
+            Place::Getting(n, _) => heads[n as usize].getter = *x,
+            Place::Putting(n, _) => heads[n as usize].putter = *x,
+            _ => {}
+        }
     }
-    Bays { fit, sizes, held }
+    heads
 }
 
-// Could neither head of a ring's lines be served?
-fn still_fits(size: u16, held: u16, getter: u8, wants: u8, putter: u8, brings: u8) -> bool
-    ensures { result ≡ neither_goes size held getter wants putter brings }
+// Could neither of these heads of ring n's lines be served? Of another structure there are none.
+#[tactic(auto, unfolding(crate::specs::Tested::heads_wait, crate::specs::Tested::neither_goes))]
+fn heads_wait(t: &Tables, n: u8, heads: Heads) -> bool
+    ensures { result ≡ heads_wait heads.getter heads.putter t.now (kind_at t.now.structures n) }
 {
-    !rings::getter_goes(getter, wants, held) & !rings::putter_goes(putter, brings, held, size)
+    match kind_at(t, n) {
+        Kind::Ring(b) => {
+            let ring = ring_at(t, b);
+            let wants = rings::asked_in(process_at(t, heads.getter).place);
+            let brings = rings::asked_in(process_at(t, heads.putter).place);
+            !rings::getter_goes(heads.getter, wants, ring.held)
+                && !rings::putter_goes(heads.putter, brings, ring.held, ring.size)
+        }
+        _ => true,
+    }
+}
+
+// Is this place in no line of a ring?
+#[tactic(auto, unfolding(crate::specs::Tested::off_rings))]
+fn off_rings(place: Place) -> bool
+    ensures { result ≡ off_rings place }
+{
+    !matches!(place, Place::Getting(..) | Place::Putting(..))
 }
 
 // Does nobody stand in a line of a ring?
-fn nobody_at_rings(processes: [Process; 32]) -> bool
-    ensures { result ≡ every 32 (λ p. off_rings (place_at processes p)) }
+fn nobody_at_rings(t: &Tables) -> bool
+    ensures { result ≡ list_all (λ q. off_rings q.place) t.now.processes }
 {
-    let mut nobody = true;
-    let mut i: usize = 0;
-    while i < 32 {
-        let process = processes[i];
-        let place = process.place;
-        let code = tables::code_of(place);
-        nobody = nobody & ((code < 5) | (6 < code));
-        i += 1;
-    }
-    nobody
+    t.processes.iter().all(|q| off_rings(q.place))
 }
 
-// No head of a ring's lines could be served. The sizes and held counts are those of the bays. Where nobody stands at a
-// ring, as is usual, no heads are looked for.
-fn still(
-    order: [u8; 32],
-    processes: [Process; 32],
-    structures: [Structure; 24],
-    sizes: [u16; 8],
-    held: [u16; 8],
-) -> bool
-    ensures { result ≡ every 24 (rests_at processes structures sizes held (heads_of 5 processes order) (heads_of 6 processes order)) }
+// Could no head of a ring's lines be served? Where nobody stands at a ring, as is usual, no heads are looked for.
+fn still(t: &Tables) -> bool
+    ensures { result ≡ stillness_tested t.now }
 {
-    if nobody_at_rings(processes) {
+    if nobody_at_rings(t) {
         return true;
     }
-    let heads = heads_of(processes, order);
-    let mut ok = true;
-    let mut i: usize = 0;
-    while i < 24 {
-        let structure = structures[i];
-        let kind = structure.kind;
-        if tables::is_ring(kind) {
-            let b = bay_of(kind);
-            let size = amount_named(b, sizes[bay_entry(b)]);
-            let bytes = amount_named(b, held[bay_entry(b)]);
-            let getter = heads.getters[i + 1];
-            let putter = heads.putters[i + 1];
-            let first = processes[tables::entry_of(getter)];
-            let second = processes[tables::entry_of(putter)];
-            let getting = first.place;
-            let putting = second.place;
-            let wants = rings::asked_in(getting);
-            let brings = rings::asked_in(putting);
-            ok = ok & still_fits(size, bytes, getter, wants, putter, brings);
-        }
-        i += 1;
-    }
-    ok
+    let heads = heads_of(t);
+    (1..=24).all(|n| heads_wait(t, n, heads[n as usize]))
 }
 
-// Are the tables sound: settled, still and urgent? A helper takes only the tables that it reads, so that the large ones
-// are copied once at most.
+// How urgent the runner is; 0 where nobody runs.
+#[tactic(auto, unfolding(tables::specs::Lines::urgency))]
+fn runner_urgency(t: &Tables) -> u16
+    ensures { result ≡ urgency t.now.processes t.now.running }
+{
+    match t.running {
+        0 => 0,
+        p => process_at(t, p).priority as u16 + 1,
+    }
+}
+
+// Does a process, if it is ready, rank no higher than this?
+#[tactic(auto, unfolding(crate::specs::Tested::rank_tested))]
+fn rank_fits(top: u16, process: Process) -> bool
+    ensures { result ≡ rank_tested top (process.priority + 1) process.place }
+{
+    process.place != Place::Ready || (process.priority as u16) < top
+}
+
+// Does nobody who is ready rank higher than the runner?
+fn urgent(t: &Tables) -> bool
+    ensures { result ≡ urgency_tested t.now.running t.now.processes }
+{
+    let top = runner_urgency(t);
+    t.processes.iter().all(|q| rank_fits(top, *q))
+}
+
+// Are the tables sound: settled, still and urgent?
+#[tactic(auto, unfolding(crate::specs::Tested::sound_b))]
 pub fn sound(t: Tables) -> bool
     ensures { result ≡ sound_b t }
 {
-    let order = t.order;
-    if !order_fits(order) {
-        return false;
-    }
-    let running = t.running;
-    if 32 < running {
-        return false;
-    }
-    let structures = t.structures;
-    let rings = t.rings;
-    let bays = bays_of(structures, rings);
-    let sizes = bays.sizes;
-    let held = bays.held;
-    let processes = t.processes;
-    let parcels = t.parcels;
-    if !processes_fit(running, order, processes, structures, sizes, parcels) {
-        return false;
-    }
-    if !values_fit(structures) {
-        return false;
-    }
-    if !bays.fit {
-        return false;
-    }
-    still(order, processes, structures, sizes, held)
+    settled(&t) && still(&t) && urgent(&t)
 }

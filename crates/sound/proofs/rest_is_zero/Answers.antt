@@ -1,40 +1,17 @@
--- `sound::rest_is_zero` meets its contract: what is not held is two stretches of bytes.
-use mathlib.Core.Path.{◌≡◌}
-use native.Mathlib.Omega.{arith}
-use lib.ListN.{length}
-use Rattle.sound.proofs.Laws as laws
-use Rattle.bay.specs.Laws.{in_range_true}
-use borrow.Author.Rules.{rules}
+-- The held bytes end before the circle does, or go round its end: what is not held is two stretches of bytes.
+use Rattle.std.proofs.Common.{rules, ◌≡◌, length}
+use Rattle.basics.specs.Lists.{len_map}
+use Rattle.sound.proofs.Laws.{rest_straight, rest_round}
 use Rattle.sound.proofs.rest_is_zero.Goals as goal
 
-pub zero_between-requires : goal.zero_between-requires
-zero_between-requires c =
-    let a = c.args.ring in
-    let long : length a.bytes ≡ 256 = search rules in
-    let n = in_range_true a.start a.size a.held c.requires in
-    omega arith
+pub returns-then-is_zero : goal.returns-then-is_zero
+returns-then-is_zero c =
+    let r = c.args.ring.now in
+    let long : length r.bytes ≡ 256 = search (len_map, rules) in
+    rest_straight r.start r.size r.held r.bytes long c.if-end-size.true c.if-is_zero.true c.is_zero.ensures c.is_zero-then-is_zero.ensures
 
-pub zero_between-requires-then-end-size : goal.zero_between-requires-then-end-size
-zero_between-requires-then-end-size c = let long : length c.args.ring.bytes ≡ 256 = search rules in omega arith
-
-pub returns-then-end-size : goal.returns-then-end-size
-returns-then-end-size c =
-    let a = c.args.ring in
-    let long : length a.bytes ≡ 256 = search rules in
-    laws.rest_straight a.start a.size a.held a.bytes c.zero_between.result c.zero_between-then-end-size.result long (omega arith) c.zero_between.ensures c.zero_between-then-end-size.ensures
-
-pub zero_between-requires-2 : goal.zero_between-requires-2
-zero_between-requires-2 c =
-    let a = c.args.ring in
-    let long : length a.bytes ≡ 256 = search rules in
-    let n = in_range_true a.start a.size a.held c.requires in
-    omega arith
-
-pub zero_between-requires-3 : goal.zero_between-requires-3
-zero_between-requires-3 c = let long : length c.args.ring.bytes ≡ 256 = search rules in omega arith
-
-pub returns : goal.returns
-returns c =
-    let a = c.args.ring in
-    let long : length a.bytes ≡ 256 = search rules in
-    laws.rest_round a.start a.size a.held a.bytes c.zero_between-2.result c.zero_between-3.result long (omega arith) c.zero_between-2.ensures c.zero_between-3.ensures
+pub returns-then-is_zero-2 : goal.returns-then-is_zero-2
+returns-then-is_zero-2 c =
+    let r = c.args.ring.now in
+    let long : length r.bytes ≡ 256 = search (len_map, rules) in
+    rest_round r.start r.size r.held r.bytes long c.if-end-size.false c.if-is_zero-2.true c.is_zero-else-end-size.ensures c.is_zero-then-is_zero-2.ensures
