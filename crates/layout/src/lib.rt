@@ -1,20 +1,15 @@
 // The state's bytes: tables to bytes and back. docs/LAYOUT.md lists every field.
 #![tactic(auto)]
 
-ghost use Rattle.std.specs.Prelude.{◌≡◌, [], ◌∷◌, ◌++◌, ◌+◌, ◌-◌, ◌*◌, ◌/◌, ◌<◌, ◌≤◌, ℕ, List, length};
+ghost use Rattle.std.specs.Prelude.{◌≡◌, ◌+◌, ◌-◌, ◌*◌, ◌/◌, ◌<◌, ◌≤◌, ℕ, List, length};
 ghost use Rattle.std.specs.List.{list_all};
 ghost use Rattle.tables.specs.Numbers.{amount};
-ghost use Rattle.records.specs.Records.{number, low_first};
 ghost use Rattle.layout.specs.Pieces.{flat, entries, part, copied_in};
 ghost use Rattle.layout.specs.Layout.{
   processes_at,
   structures_at,
-  bays_at,
   holdings_at,
-  ring_bytes_at,
-  parcel_bytes_at,
   state_length,
-  flag,
   place_of,
   process_bytes,
   process_from,
@@ -25,36 +20,18 @@ ghost use Rattle.layout.specs.Layout.{
   bay_bytes,
   bay_from,
   ring_bytes,
-  holding_flag,
-  holding_length,
-  holding_of,
   holding_bytes,
   parcel_from,
   parcel_bytes,
-  process_in,
-  structure_in,
-  bay_in,
-  parcel_in,
   decode,
   control_to,
   bytes_to,
   process_kept,
   structure_kept,
   holding_kept,
-  processes_kept,
-  structures_kept,
-  holdings_kept,
   is_state,
 };
-ghost use Rattle.layout.specs.Kept.{
-  most_spot,
-  most_amount,
-  process_fits,
-  most_value,
-  structure_fits,
-  most_length,
-  holding_fits,
-};
+ghost use Rattle.layout.specs.Kept.{most_spot, most_amount, most_value};
 
 use bay::{Parcel, Ring};
 use tables::{Kind, Place, Process, Structure, Tables};

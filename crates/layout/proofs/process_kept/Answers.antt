@@ -9,4 +9,4 @@ pub returns : goal.returns
 unfolding process_fits
 returns c =
     let amount : c.from_le_bytes-amount.result ≡ number (drop 4 c.args.bytes.now) = c.from_le_bytes-amount.ensures ∙ amount_number c.args.bytes.now c.told-bytes in
-    rw (process_fits_lem c.args.bytes.now c.told-bytes c.fits-bytes, c.most_spot.ensures, c.most_amount.ensures, amount, and_assoc, and_assoc)
+    rw (process_fits_lem c.args.bytes.now c.told-bytes c.fits-bytes, c.most_spot.ensures, c.most_amount.ensures, amount) (simp and_assoc)
