@@ -1,7 +1,7 @@
--- A number's digits one by one and how many they are, what a text written to a line is, and that every line has room. Assumes nothing.
+-- A number's digits one by one and how many they are, that they are the library's, and how long a line is. Assumes nothing.
 use Rattle.std.specs.Prelude.{ℕ, zero, suc, ◌/◌, ◌%◌, ◌^◌, ◌≤◌, ◌<◌, ◌≡◌, refl, [], ◌∷◌, ◌++◌, ltb, length}
 use Rattle.std.proofs.Common.{sym, append_assoc, arith, pow-suc, lt-ltb, le-ltb, ltb-false, length-append}
-use Rattle.std.specs.Fmt as std
+use Rattle.std.specs.Fmt as printed
 use Rattle.std.proofs.lemmas.Fmt.{decimal_by_steps}
 use Rattle.basics.specs.Tests.{test, holds, fails}
 use Rattle.records.specs.declared.Record.{Record}
@@ -30,7 +30,7 @@ unfolding decimal digits
 decimal_more x h = rw (le-ltb x 10 h, digits_all x (suc (x / 10)) (x / 10) (omega arith) (omega arith))
 
 -- So they are the library's digits
-pub decimal_printed : (x : ℕ) → x < 2 ^ 64 → std.decimal x ≡ decimal x
+pub decimal_printed : (x : ℕ) → x < 2 ^ 64 → printed.decimal x ≡ decimal x
 decimal_printed x h = decimal_by_steps (λ y text. text ≡ decimal y) (λ y k. sym (decimal_one y k)) (λ y text k e. rw (e, decimal_more y k)) x h
 
 -- A number below 10 ^ k has at most k digits, for k above 0
@@ -48,7 +48,7 @@ pub decimal_long : (k x : ℕ) → x < 10 ^ suc k → length (decimal x) ≤ suc
 unfolding decimal
 decimal_long k x h = digits_long (suc x) k x h
 
--- By the ranges of its fields every line has room
+-- By the ranges of its fields every line has at most so many bytes
 pub line_long : (call : ℕ) (r : Record) → call < 256 → r.what < 256 → r.who < 256 → r.n < 256 → r.l < 256 → r.m < 2 ^ 32 → length (line_of call r) ≤ room
 unfolding line_of field
 line_long call r a b c d e f =
@@ -56,7 +56,7 @@ line_long call r a b c d e f =
     (omega (arith, decimal_long 2 call (omega arith), decimal_long 2 r.what (omega arith), decimal_long 2 r.who (omega arith), decimal_long 2 r.n (omega arith), decimal_long 2 r.l (omega arith), decimal_long 9 r.m (omega arith)))
 
 -- A line is what the library prints of its six numbers, with a space behind each and a line end behind the last
-pub line_printed : (call : ℕ) (r : Record) → call < 256 → r.what < 256 → r.who < 256 → r.n < 256 → r.l < 256 → r.m < 2 ^ 32 → std.decimal call ++ (space ∷ (std.decimal r.what ++ (space ∷ (std.decimal r.who ++ (space ∷ (std.decimal r.n ++ (space ∷ (std.decimal r.l ++ (space ∷ (std.decimal r.m ++ (line_end ∷ []))))))))))) ≡ line_of call r
+pub line_printed : (call : ℕ) (r : Record) → call < 256 → r.what < 256 → r.who < 256 → r.n < 256 → r.l < 256 → r.m < 2 ^ 32 → printed.decimal call ++ (space ∷ (printed.decimal r.what ++ (space ∷ (printed.decimal r.who ++ (space ∷ (printed.decimal r.n ++ (space ∷ (printed.decimal r.l ++ (space ∷ (printed.decimal r.m ++ (line_end ∷ []))))))))))) ≡ line_of call r
 unfolding line_of field
 line_printed call r a b c d e f =
     simp (append_assoc, decimal_printed call (omega arith), decimal_printed r.what (omega arith), decimal_printed r.who (omega arith), decimal_printed r.n (omega arith), decimal_printed r.l (omega arith), decimal_printed r.m (omega arith))

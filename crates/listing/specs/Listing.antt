@@ -14,7 +14,7 @@ space = 32
 abbrev pub line_end : ℕ
 line_end = 10
 
--- How many bytes a line has room for
+-- How many bytes a line has at most: six numbers of 3, 3, 3, 3, 3 and 10 digits, and a byte behind each
 abbrev pub room : ℕ
 room = 40
 
