@@ -1,19 +1,15 @@
 // The state's bytes: tables to bytes and back. docs/LAYOUT.md lists every field.
 #![tactic(auto)]
 
-ghost use Rattle.std.specs.Prelude.{◌≡◌, [], ◌∷◌, ◌++◌, ◌+◌, ◌≤◌, length};
+ghost use Rattle.std.specs.Prelude.{◌≡◌, ◌+◌, ◌-◌, ◌*◌, ◌/◌, ◌<◌, ◌≤◌, ℕ, List, length};
+ghost use Rattle.std.specs.List.{list_all};
 ghost use Rattle.tables.specs.Numbers.{amount};
-ghost use Rattle.records.specs.Records.{number, low_first};
 ghost use Rattle.layout.specs.Pieces.{flat, entries, part, copied_in};
 ghost use Rattle.layout.specs.Layout.{
   processes_at,
   structures_at,
-  bays_at,
   holdings_at,
-  ring_bytes_at,
-  parcel_bytes_at,
   state_length,
-  flag,
   place_of,
   process_bytes,
   process_from,
@@ -24,33 +20,18 @@ ghost use Rattle.layout.specs.Layout.{
   bay_bytes,
   bay_from,
   ring_bytes,
-  holding_flag,
-  holding_length,
-  holding_of,
   holding_bytes,
   parcel_from,
   parcel_bytes,
-  process_in,
-  structure_in,
-  bay_in,
-  parcel_in,
   decode,
   control_to,
   bytes_to,
-  processes_kept,
-  structures_kept,
-  holdings_kept,
+  process_kept,
+  structure_kept,
+  holding_kept,
   is_state,
 };
-ghost use Rattle.layout.specs.Kept.{
-  most_spot,
-  most_amount,
-  process_fits,
-  most_value,
-  structure_fits,
-  most_length,
-  holding_fits,
-};
+ghost use Rattle.layout.specs.Kept.{most_spot, most_amount, most_value};
 
 use bay::{Parcel, Ring};
 use tables::{Kind, Place, Process, Structure, Tables};
@@ -73,42 +54,19 @@ const PARCEL_BYTES: usize = RING_BYTES + 8 * 256;
 // How many bytes a state has.
 pub const LENGTH: usize = PARCEL_BYTES + 32 * 64;
 
-// The bytes b into s, from its byte `at` on.
-fn copy_in(s: &mut [u8], at: usize, b: &[u8])
-    requires { at + length b.now ≤ length s.old }
-    ensures { s.new ≡ copied_in s.old at b.now }
-{
-    let mut i = 0;
-    while i < b.len() {
-        s[at + i] = b[i];
-        i += 1;
-    }
-}
-
-// 1 for true, 0 for false.
-fn flag(b: bool) -> u8
-    ensures { result ≡ flag b }
-{
-    if b { 1 } else { 0 }
-}
-
 // The bytes that a process in this place wants or brings, or the milliseconds that it still sleeps.
 fn amount_of(place: Place) -> u32
     ensures { result ≡ amount place }
 {
     match place {
-        Place::Nowhere => 0,
-        Place::Running => 0,
-        Place::Ready => 0,
-        Place::Parked => 0,
-        Place::Waiting(_) => 0,
-        Place::Getting(_, k) => k as u32,
-        Place::Putting(_, k) => k as u32,
+        Place::Getting(_, k) | Place::Putting(_, k) => u32::from(k),
         Place::Asleep(k) => k,
+        Place::Nowhere | Place::Running | Place::Ready | Place::Parked | Place::Waiting(_) => 0,
     }
 }
 
 // The place with this number, structure and amount.
+#[tactic(auto, using(std::proofs::lemmas::Bool::Decides::nat_tests), unfolding(crate::specs::Layout::place_of))]
 fn place_of(code: u8, n: u8, k: u32) -> Place
     ensures { result ≡ place_of code n k }
 {
@@ -124,35 +82,15 @@ fn place_of(code: u8, n: u8, k: u32) -> Place
     }
 }
 
-// The bytes of a process: priority, suspended, place number, structure, and 4 bytes of length or remainder.
-fn process_bytes(p: Process) -> [u8; 8]
-    ensures { result ≡ process_bytes p }
+// The process of these bytes.
+fn process_from(bytes: &[u8; 8]) -> Process
+    ensures { result ≡ process_from bytes.now }
 {
-    let place = p.place;
-    let k = amount_of(place);
-    [
-        p.priority,
-        flag(p.suspended),
-        tables::code_of(place),
-        tables::spot_of(place),
-        (k % 256) as u8,
-        (k / 256 % 256) as u8,
-        (k / 256 / 256 % 256) as u8,
-        (k / 256 / 256 / 256 % 256) as u8,
-    ]
-}
-
-// The process whose bytes stand in s from its byte `at` on.
-fn process_from(s: &[u8], at: usize) -> Process
-    requires { at + 8 ≤ length s.now }
-    ensures { result ≡ process_from (part s.now at 8) }
-{
-    let k = records::number_of(s[at + 4], s[at + 5], s[at + 6], s[at + 7]);
-    let place = place_of(s[at + 2], s[at + 3], k);
+    let [priority, suspended, code, n, a, b, c, d] = *bytes;
     Process {
-        priority: s[at],
-        suspended: s[at + 1] == 1,
-        place,
+        priority,
+        suspended: suspended == 1,
+        place: place_of(code, n, u32::from_le_bytes([a, b, c, d])),
     }
 }
 
@@ -162,13 +100,13 @@ fn value_of(kind: Kind) -> u16
 {
     match kind {
         Kind::Free => 0,
-        Kind::Binary(v) => v as u16,
+        Kind::Binary(v) | Kind::Ring(v) => u16::from(v),
         Kind::Counting(v) => v,
-        Kind::Ring(b) => b as u16,
     }
 }
 
 // The kind with this number and value.
+#[tactic(auto, using(std::proofs::lemmas::Bool::Decides::nat_tests), unfolding(crate::specs::Layout::kind_of))]
 fn kind_of(k: u8, v: u16) -> Kind
     ensures { result ≡ kind_of k v }
 {
@@ -180,193 +118,127 @@ fn kind_of(k: u8, v: u16) -> Kind
     }
 }
 
-// The bytes of a structure: kind number, and 2 bytes of value.
-fn structure_bytes(x: Structure) -> [u8; 3]
-    ensures { result ≡ structure_bytes x }
+// The structure of these bytes.
+fn structure_from(bytes: &[u8; 3]) -> Structure
+    ensures { result ≡ structure_from bytes.now }
 {
-    let kind = x.kind;
-    let v = value_of(kind);
-    [
-        tables::kind_number(kind),
-        (v % 256) as u8,
-        (v / 256 % 256) as u8,
-    ]
+    let [kind, low, high] = *bytes;
+    Structure {
+        kind: kind_of(kind, u16::from_le_bytes([low, high])),
+    }
 }
 
-// The number of two bytes, low byte first.
-fn pair_of(a: u8, b: u8) -> u16
-    ensures { result ≡ number (a ∷ b ∷ []) }
+// The ring of these numbers and bytes.
+fn bay_from(numbers: &[u8; 6], bytes: &[u8; 256]) -> Ring
+    ensures { result ≡ bay_from numbers.now bytes.now }
 {
-    a as u16 + 256 * (b as u16)
-}
-
-// The structure whose bytes stand in s from its byte `at` on.
-fn structure_from(s: &[u8], at: usize) -> Structure
-    requires { at + 3 ≤ length s.now }
-    ensures { result ≡ structure_from (part s.now at 3) }
-{
-    let v = pair_of(s[at + 1], s[at + 2]);
-    let kind = kind_of(s[at], v);
-    Structure { kind }
-}
-
-// The bytes of a bay's numbers: start, size and held count.
-fn bay_bytes(start: u16, size: u16, held: u16) -> [u8; 6]
-    ensures { result ≡ low_first 2 start ++ low_first 2 size ++ low_first 2 held }
-{
-    [
-        (start % 256) as u8,
-        (start / 256 % 256) as u8,
-        (size % 256) as u8,
-        (size / 256 % 256) as u8,
-        (held % 256) as u8,
-        (held / 256 % 256) as u8,
-    ]
-}
-
-// The ring whose numbers stand in s from its byte `at` on, and whose bytes from `from` on.
-fn bay_from(s: &[u8], at: usize, from: usize) -> Ring
-    requires { (at + 6 ≤ length s.now) × (from + 256 ≤ length s.now) }
-    ensures { result ≡ bay_from (part s.now at 6) (part s.now from 256) }
-{
-    let mut bytes = [0u8; 256];
-    copy_in(&mut bytes, 0, &s[from..from + 256]);
+    let [a, b, c, d, e, f] = *numbers;
     Ring {
-        bytes,
-        start: pair_of(s[at], s[at + 1]),
-        size: pair_of(s[at + 2], s[at + 3]),
-        held: pair_of(s[at + 4], s[at + 5]),
+        bytes: *bytes,
+        start: u16::from_le_bytes([a, b]),
+        size: u16::from_le_bytes([c, d]),
+        held: u16::from_le_bytes([e, f]),
     }
 }
 
-// 1 where a parcel holds bytes, 0 where it holds nothing.
-fn holding_flag(holds: Option<u8>) -> u8
-    ensures { result ≡ holding_flag holds }
+// The parcel of these two bytes, which tell what it holds, and those that it holds.
+fn parcel_from(holding: &[u8; 2], bytes: &[u8; 64]) -> Parcel
+    ensures { result ≡ parcel_from holding.now bytes.now }
 {
-    match holds {
-        None => 0,
-        Some(_) => 1,
+    let [flag, length] = *holding;
+    Parcel {
+        bytes: *bytes,
+        holds: (flag == 1).then_some(length),
     }
 }
 
-// How many bytes a parcel holds.
-fn holding_length(holds: Option<u8>) -> u8
-    ensures { result ≡ holding_length holds }
-{
-    match holds {
-        None => 0,
-        Some(l) => l,
+// What stands in the state as N bytes for each entry of a table. A ring and a parcel stand there twice, in parts of two
+// widths: the numbers, and the bytes that they hold.
+trait Stored<const N: usize> {
+    ghost stored: { Self → List ℕ };
+
+    fn stored(&self) -> [u8; N]
+        ensures { result ≡ stored self.now };
+}
+
+// Priority, suspended, place number, structure, and 4 bytes of length or remainder.
+impl Stored<8> for Process {
+    ghost stored = { process_bytes };
+
+    fn stored(&self) -> [u8; 8] {
+        let [a, b, c, d] = amount_of(self.place).to_le_bytes();
+        [
+            self.priority,
+            u8::from(self.suspended),
+            tables::code_of(self.place),
+            tables::spot_of(self.place),
+            a,
+            b,
+            c,
+            d,
+        ]
     }
 }
 
-// What a parcel holds by these bytes.
-fn holding_of(k: u8, l: u8) -> Option<u8>
-    ensures { result ≡ holding_of k l }
-{
-    if k == 1 {
-        return Some(l);
-    }
-    None
-}
+// Kind number, and 2 bytes of value.
+impl Stored<3> for Structure {
+    ghost stored = { structure_bytes };
 
-// The bytes of what a parcel holds: 1 and the length, or 0 and 0 for nothing.
-fn holding_bytes(holds: Option<u8>) -> [u8; 2]
-    ensures { result ≡ holding_flag holds ∷ holding_length holds ∷ [] }
-{
-    [holding_flag(holds), holding_length(holds)]
-}
-
-// The parcel of which s tells what it holds from its byte `at` on, and whose bytes stand from `from` on.
-fn parcel_from(s: &[u8], at: usize, from: usize) -> Parcel
-    requires { (at + 2 ≤ length s.now) × (from + 64 ≤ length s.now) }
-    ensures { result ≡ parcel_from (part s.now at 2) (part s.now from 64) }
-{
-    let mut bytes = [0u8; 64];
-    copy_in(&mut bytes, 0, &s[from..from + 64]);
-    let holds = holding_of(s[at], s[at + 1]);
-    Parcel { bytes, holds }
-}
-
-// The processes into s.
-fn write_processes(s: &mut [u8], processes: [Process; 32])
-    requires { length s.old ≡ state_length }
-    ensures { s.new ≡ copied_in s.old processes_at (flat process_bytes processes) }
-{
-    let mut i = 0;
-    while i < 32 {
-        let b = process_bytes(processes[i]);
-        copy_in(s, PROCESSES + i * 8, &b);
-        i += 1;
+    fn stored(&self) -> [u8; 3] {
+        let [low, high] = value_of(self.kind).to_le_bytes();
+        [tables::kind_number(self.kind), low, high]
     }
 }
 
-// The structures into s.
-fn write_structures(s: &mut [u8], structures: [Structure; 24])
-    requires { length s.old ≡ state_length }
-    ensures { s.new ≡ copied_in s.old structures_at (flat structure_bytes structures) }
-{
-    let mut i = 0;
-    while i < 24 {
-        let b = structure_bytes(structures[i]);
-        copy_in(s, STRUCTURES + i * 3, &b);
-        i += 1;
+// Start, size and held count.
+impl Stored<6> for Ring {
+    ghost stored = { bay_bytes };
+
+    fn stored(&self) -> [u8; 6] {
+        let [a, b] = self.start.to_le_bytes();
+        let [c, d] = self.size.to_le_bytes();
+        let [e, f] = self.held.to_le_bytes();
+        [a, b, c, d, e, f]
     }
 }
 
-// The bays' numbers into s.
-fn write_bays(s: &mut [u8], rings: [Ring; 8])
-    requires { length s.old ≡ state_length }
-    ensures { s.new ≡ copied_in s.old bays_at (flat bay_bytes rings) }
-{
-    let mut i = 0;
-    while i < 8 {
-        let ring = rings[i];
-        let b = bay_bytes(ring.start, ring.size, ring.held);
-        copy_in(s, BAYS + i * 6, &b);
-        i += 1;
+impl Stored<256> for Ring {
+    ghost stored = { ring_bytes };
+
+    fn stored(&self) -> [u8; 256] {
+        self.bytes
     }
 }
 
-// What the parcels hold into s.
-fn write_holdings(s: &mut [u8], parcels: [Parcel; 32])
-    requires { length s.old ≡ state_length }
-    ensures { s.new ≡ copied_in s.old holdings_at (flat holding_bytes parcels) }
-{
-    let mut i = 0;
-    while i < 32 {
-        let parcel = parcels[i];
-        let holds = parcel.holds;
-        let b = holding_bytes(holds);
-        copy_in(s, HOLDINGS + i * 2, &b);
-        i += 1;
+// 1 and the length of what the parcel holds, or 0 and 0 for nothing.
+impl Stored<2> for Parcel {
+    ghost stored = { holding_bytes };
+
+    fn stored(&self) -> [u8; 2] {
+        match self.holds {
+            Some(length) => [1, length],
+            None => [0, 0],
+        }
     }
 }
 
-// The bays' bytes into s.
-fn write_ring_bytes(s: &mut [u8], rings: [Ring; 8])
-    requires { length s.old ≡ state_length }
-    ensures { s.new ≡ copied_in s.old ring_bytes_at (flat ring_bytes rings) }
-{
-    let mut i = 0;
-    while i < 8 {
-        let ring = rings[i];
-        let b = ring.bytes;
-        copy_in(s, RING_BYTES + i * 256, &b);
-        i += 1;
+impl Stored<64> for Parcel {
+    ghost stored = { parcel_bytes };
+
+    fn stored(&self) -> [u8; 64] {
+        self.bytes
     }
 }
 
-// The parcels' bytes into s.
-fn write_parcel_bytes(s: &mut [u8], parcels: [Parcel; 32])
-    requires { length s.old ≡ state_length }
-    ensures { s.new ≡ copied_in s.old parcel_bytes_at (flat parcel_bytes parcels) }
+// The entries of a table into s, one behind the other, from its byte `at` on.
+fn write_entries<T: Stored<N>, const N: usize>(s: &mut [u8], at: usize, entries: &[T])
+    requires { at + length entries.now * N ≤ length s.old }
+    ensures { s.new ≡ copied_in s.old at (flat T.stored entries.now) }
 {
-    let mut i = 0;
-    while i < 32 {
-        let parcel = parcels[i];
-        let b = parcel.bytes;
-        copy_in(s, PARCEL_BYTES + i * 64, &b);
-        i += 1;
+    let mut next = at;
+    for entry in entries {
+        s[next..next + N].copy_from_slice(&entry.stored());
+        next += N;
     }
 }
 
@@ -384,9 +256,9 @@ pub fn write_control(
         return;
     }
     s[0] = running;
-    copy_in(s, ORDER, &order);
-    write_processes(s, processes);
-    write_structures(s, structures);
+    s[ORDER..PROCESSES].copy_from_slice(&order);
+    write_entries(s, PROCESSES, &processes);
+    write_entries(s, STRUCTURES, &structures);
 }
 
 // What the bays and the parcels hold into such a buffer.
@@ -396,10 +268,21 @@ pub fn write_bytes(s: &mut [u8], rings: [Ring; 8], parcels: [Parcel; 32])
     if s.len() != LENGTH {
         return;
     }
-    write_bays(s, rings);
-    write_holdings(s, parcels);
-    write_ring_bytes(s, rings);
-    write_parcel_bytes(s, parcels);
+    write_entries::<Ring, 6>(s, BAYS, &rings);
+    write_entries::<Parcel, 2>(s, HOLDINGS, &parcels);
+    write_entries::<Ring, 256>(s, RING_BYTES, &rings);
+    write_entries::<Parcel, 64>(s, PARCEL_BYTES, &parcels);
+}
+
+// The entries of N bytes from byte `from` to byte `to`.
+fn entries<const N: usize>(s: &[u8; LENGTH], from: usize, to: usize) -> &[[u8; N]]
+    requires wide { 0 < N }
+    requires ordered { from ≤ to }
+    requires within { to ≤ state_length }
+    ensures count { length result.now ≡ (to - from) / N }
+    ensures each { result.now ≡ entries ((to - from) / N) (λ i. part s.now (from + i * N) N) }
+{
+    s[from..to].as_chunks().0
 }
 
 // The tables that stand in s; fresh ones where it has another length than a state's. Each entry is set in its place: a
@@ -408,150 +291,118 @@ pub fn read(s: &[u8]) -> Tables
     ensures { result ≡ decode s.now }
 {
     let mut t = tables::fresh();
-    if s.len() != LENGTH {
+    let Some(s) = s.as_array::<LENGTH>() else {
         return t;
-    }
+    };
     t.running = s[0];
-    let mut i = 0;
-    while i < 32 {
-        t.order[i] = s[ORDER + i];
-        t.processes[i] = process_from(s, PROCESSES + i * 8);
-        t.parcels[i] = parcel_from(s, HOLDINGS + i * 2, PARCEL_BYTES + i * 64);
-        i += 1;
+    t.order.copy_from_slice(&s[ORDER..PROCESSES]);
+    let processes = entries(s, PROCESSES, STRUCTURES);
+    for i in 0..32 {
+        t.processes[i] = process_from(&processes[i]);
     }
-    i = 0;
-    while i < 24 {
-        t.structures[i] = structure_from(s, STRUCTURES + i * 3);
-        i += 1;
+    let structures = entries(s, STRUCTURES, BAYS);
+    for i in 0..24 {
+        t.structures[i] = structure_from(&structures[i]);
     }
-    i = 0;
-    while i < 8 {
-        t.rings[i] = bay_from(s, BAYS + i * 6, RING_BYTES + i * 256);
-        i += 1;
+    let numbers = entries(s, BAYS, HOLDINGS);
+    let ring_bytes = entries(s, RING_BYTES, PARCEL_BYTES);
+    for i in 0..8 {
+        t.rings[i] = bay_from(&numbers[i], &ring_bytes[i]);
+    }
+    let holdings = entries(s, HOLDINGS, RING_BYTES);
+    let parcel_bytes = entries(s, PARCEL_BYTES, LENGTH);
+    for i in 0..32 {
+        t.parcels[i] = parcel_from(&holdings[i], &parcel_bytes[i]);
     }
     t
 }
 
 // The largest structure number beside a place's number: 0 where the place names no structure.
+#[tactic(auto, using(std::proofs::lemmas::Bool::Decides::nat_tests), unfolding(crate::specs::Kept::most_spot))]
 fn most_spot(code: u8) -> u8
     ensures { result ≡ most_spot code }
 {
     match code {
-        4 => 255,
-        5 => 255,
-        6 => 255,
+        4..=6 => 255,
         _ => 0,
     }
 }
 
 // The largest amount beside a place's number: 0 where the place has none.
+#[tactic(auto, using(std::proofs::lemmas::Bool::Decides::nat_tests), unfolding(crate::specs::Kept::most_amount))]
 fn most_amount(code: u8) -> u32
     ensures { result ≡ most_amount code }
 {
     match code {
-        5 => 255,
-        6 => 255,
-        7 => 4294967295,
+        5 | 6 => 255,
+        7 => u32::MAX,
         _ => 0,
     }
 }
 
-// Does reading lose nothing of a process with these numbers?
-fn process_kept(suspended: u8, code: u8, n: u8, k: u32) -> bool
-    ensures { result ≡ process_fits suspended code n k }
+// Does reading lose nothing of the bytes of a process? Here and below `&` and `|` test without a branch: each call asks it of
+// a whole state.
+fn process_kept(bytes: &[u8; 8]) -> bool
+    ensures { result ≡ process_kept bytes.now }
 {
-    (suspended <= 1) & ((code <= 7) & ((n <= most_spot(code)) & (k <= most_amount(code))))
-}
-
-// Does reading lose nothing of the bytes of each process?
-fn processes_kept(s: &[u8]) -> bool
-    requires { length s.now ≡ state_length }
-    ensures { result ≡ processes_kept s.now }
-{
-    let mut ok = true;
-    let mut i = 0;
-    while i < 32 {
-        let at = PROCESSES + i * 8;
-        let k = records::number_of(s[at + 4], s[at + 5], s[at + 6], s[at + 7]);
-        ok = ok & process_kept(s[at + 1], s[at + 2], s[at + 3], k);
-        i += 1;
-    }
-    ok
+    let [_, suspended, code, n, a, b, c, d] = *bytes;
+    let amount = u32::from_le_bytes([a, b, c, d]);
+    (suspended <= 1) & (code <= 7) & (n <= most_spot(code)) & (amount <= most_amount(code))
 }
 
 // The largest value, or bay, beside a kind's number: 0 of a free structure.
+#[tactic(auto, using(std::proofs::lemmas::Bool::Decides::nat_tests), unfolding(crate::specs::Kept::most_value))]
 fn most_value(kind: u8) -> u16
     ensures { result ≡ most_value kind }
 {
     match kind {
-        1 => 255,
-        2 => 65535,
-        3 => 255,
+        1 | 3 => 255,
+        2 => u16::MAX,
         _ => 0,
     }
 }
 
-// Does reading lose nothing of a structure with these numbers?
-fn structure_kept(kind: u8, v: u16) -> bool
-    ensures { result ≡ structure_fits kind v }
+// Does reading lose nothing of the bytes of a structure?
+fn structure_kept(bytes: &[u8; 3]) -> bool
+    ensures { result ≡ structure_kept bytes.now }
 {
-    (kind <= 3) & (v <= most_value(kind))
+    let [kind, low, high] = *bytes;
+    (kind <= 3) & (u16::from_le_bytes([low, high]) <= most_value(kind))
 }
 
-// Does reading lose nothing of the bytes of each structure?
-fn structures_kept(s: &[u8]) -> bool
-    requires { length s.now ≡ state_length }
-    ensures { result ≡ structures_kept s.now }
+// Does reading lose nothing of the bytes that tell what a parcel holds?
+fn holding_kept(bytes: &[u8; 2]) -> bool
+    ensures { result ≡ holding_kept bytes.now }
 {
-    let mut ok = true;
-    let mut i = 0;
-    while i < 24 {
-        let at = STRUCTURES + i * 3;
-        let v = pair_of(s[at + 1], s[at + 2]);
-        ok = ok & structure_kept(s[at], v);
-        i += 1;
-    }
-    ok
+    let [flag, length] = *bytes;
+    (flag == 1) | ((flag == 0) & (length == 0))
 }
 
-// The largest length beside what a parcel holds: 0 where it holds nothing.
-fn most_length(k: u8) -> u8
-    ensures { result ≡ most_length k }
+// Does it of the bytes of each process, of each structure, of what each parcel holds?
+fn processes_kept(s: &[u8; LENGTH]) -> bool
+    ensures { result ≡ list_all process_kept (entries 32 (λ i. part s.now (processes_at + i * 8) 8)) }
 {
-    if k == 1 {
-        return 255;
-    }
-    0
+    entries(s, PROCESSES, STRUCTURES).iter().all(process_kept)
 }
 
-// Does reading lose nothing of a parcel with these numbers?
-fn holding_kept(k: u8, l: u8) -> bool
-    ensures { result ≡ holding_fits k l }
+fn structures_kept(s: &[u8; LENGTH]) -> bool
+    ensures { result ≡ list_all structure_kept (entries 24 (λ i. part s.now (structures_at + i * 3) 3)) }
 {
-    (k <= 1) & (l <= most_length(k))
+    entries(s, STRUCTURES, BAYS).iter().all(structure_kept)
 }
 
-// Does reading lose nothing of what each parcel holds?
-fn holdings_kept(s: &[u8]) -> bool
-    requires { length s.now ≡ state_length }
-    ensures { result ≡ holdings_kept s.now }
+fn holdings_kept(s: &[u8; LENGTH]) -> bool
+    ensures { result ≡ list_all holding_kept (entries 32 (λ i. part s.now (holdings_at + i * 2) 2)) }
 {
-    let mut ok = true;
-    let mut i = 0;
-    while i < 32 {
-        let at = HOLDINGS + i * 2;
-        ok = ok & holding_kept(s[at], s[at + 1]);
-        i += 1;
-    }
-    ok
+    entries(s, HOLDINGS, RING_BYTES).iter().all(holding_kept)
 }
 
 // Are these the bytes of some tables? Only what reading could lose is compared: the rest reads one to one.
 pub fn is_state(s: &[u8]) -> bool
     ensures { result ≡ is_state s.now }
 {
-    if s.len() != LENGTH {
+    let Some(s) = s.as_array::<LENGTH>() else {
         return false;
-    }
-    processes_kept(s) & structures_kept(s) & holdings_kept(s)
+    };
+    processes_kept(s) && structures_kept(s) && holdings_kept(s)
 }

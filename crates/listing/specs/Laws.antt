@@ -1,12 +1,12 @@
--- A number's digits one by one and how many they are, what a text written to a line is, and that every line has room. Assumes nothing.
-use Rattle.std.specs.Prelude.{ℕ, zero, suc, ◌+◌, ◌-◌, ◌/◌, ◌%◌, ◌^◌, ◌≤◌, ◌<◌, ◌≡◌, refl, List, [], ◌∷◌, ◌++◌, ltb, length}
-use Rattle.std.proofs.Common.{append_assoc, append-nil, arith, pow-suc, lt-ltb, le-ltb, ltb-false, length-append}
-use Rattle.std.proofs.Math.Seq.{set-append_seam}
+-- A number's digits one by one and how many they are, that they are the library's, and how long a line is. Assumes nothing.
+use Rattle.std.specs.Prelude.{ℕ, zero, suc, ◌/◌, ◌%◌, ◌^◌, ◌≤◌, ◌<◌, ◌≡◌, refl, [], ◌∷◌, ◌++◌, ltb, length}
+use Rattle.std.proofs.Common.{sym, append_assoc, arith, pow-suc, lt-ltb, le-ltb, ltb-false, length-append}
+use Rattle.std.specs.Fmt as printed
+use Rattle.std.proofs.lemmas.Fmt.{decimal_by_steps}
 use Rattle.basics.specs.Tests.{test, holds, fails}
 use Rattle.records.specs.declared.Record.{Record}
 use Rattle.records.specs.Records.{reply}
-use Rattle.listing.specs.declared.Line.{Line}
-use Rattle.listing.specs.Listing.{digit, room, digits, decimal, field, line_of, lined, pushed, written}
+use Rattle.listing.specs.Listing.{digit, space, line_end, room, digits, decimal, field, line_of}
 
 -- Any k and j above x give the same digits: all of them
 digits_all : (k j x : ℕ) → x < k → x < j → digits k (ltb x 10) x ≡ digits j (ltb x 10) x
@@ -29,6 +29,10 @@ pub decimal_more : (x : ℕ) → 10 ≤ x → decimal x ≡ decimal (x / 10) ++ 
 unfolding decimal digits
 decimal_more x h = rw (le-ltb x 10 h, digits_all x (suc (x / 10)) (x / 10) (omega arith) (omega arith))
 
+-- So they are the library's digits
+pub decimal_printed : (x : ℕ) → x < 2 ^ 64 → printed.decimal x ≡ decimal x
+decimal_printed x h = decimal_by_steps (λ y text. text ≡ decimal y) (λ y k. sym (decimal_one y k)) (λ y text k e. rw (e, decimal_more y k)) x h
+
 -- A number below 10 ^ k has at most k digits, for k above 0
 digits_long : (j k x : ℕ) → x < 10 ^ suc k → length (digits j (ltb x 10) x) ≤ suc k
 unfolding digits
@@ -44,41 +48,18 @@ pub decimal_long : (k x : ℕ) → x < 10 ^ suc k → length (decimal x) ≤ suc
 unfolding decimal
 decimal_long k x h = digits_long (suc x) k x h
 
--- A text written behind another
-pub written_append : (l : Line) (a b : List ℕ) → written l (a ++ b) ≡ written (written l a) b
-unfolding written
-written_append l [] b = refl
-written_append l (x ∷ a) b = written_append (pushed l x) a b
-
--- Where there is room, a byte more is a text longer by that byte
-pushed_lined : (text : List ℕ) (b : ℕ) → length text < room → pushed (lined text) b ≡ lined (text ++ (b ∷ []))
-unfolding pushed lined
-pushed_lined text b h =
-    let one : room - length text ≡ suc (room - (length text + 1)) = omega arith in
-    rw (lt-ltb (length text) room h, length-append, one, set-append_seam, append_assoc)
-
--- and a text more is the two texts
-written_lined : (a b : List ℕ) → length a + length b ≤ room → written (lined a) b ≡ lined (a ++ b)
-unfolding written
-written_lined a [] h = rw append-nil
-written_lined a (x ∷ b) h =
-    rw (pushed_lined a x (omega arith), written_lined (a ++ (x ∷ [])) b (rw length-append (omega arith)), append_assoc)
-
--- So a text written to an empty line is that text
-pub written_whole : (text : List ℕ) → length text ≤ room → written (lined []) text ≡ lined text
-written_whole text h = written_lined [] text (omega arith)
-
--- A line's length is within its bytes, so that a caller may take that many
-pub lined_within : {l : Line} (text : List ℕ) → l ≡ lined text → l.length ≤ length l.bytes
-unfolding lined
-lined_within text e = rw (e, length-append) (omega arith)
-
--- By the ranges of its fields every line has room
+-- By the ranges of its fields every line has at most so many bytes
 pub line_long : (call : ℕ) (r : Record) → call < 256 → r.what < 256 → r.who < 256 → r.n < 256 → r.l < 256 → r.m < 2 ^ 32 → length (line_of call r) ≤ room
 unfolding line_of field
 line_long call r a b c d e f =
     simp length-append
     (omega (arith, decimal_long 2 call (omega arith), decimal_long 2 r.what (omega arith), decimal_long 2 r.who (omega arith), decimal_long 2 r.n (omega arith), decimal_long 2 r.l (omega arith), decimal_long 9 r.m (omega arith)))
+
+-- A line is what the library prints of its six numbers, with a space behind each and a line end behind the last
+pub line_printed : (call : ℕ) (r : Record) → call < 256 → r.what < 256 → r.who < 256 → r.n < 256 → r.l < 256 → r.m < 2 ^ 32 → printed.decimal call ++ (space ∷ (printed.decimal r.what ++ (space ∷ (printed.decimal r.who ++ (space ∷ (printed.decimal r.n ++ (space ∷ (printed.decimal r.l ++ (space ∷ (printed.decimal r.m ++ (line_end ∷ []))))))))))) ≡ line_of call r
+unfolding line_of field
+line_printed call r a b c d e f =
+    simp (append_assoc, decimal_printed call (omega arith), decimal_printed r.what (omega arith), decimal_printed r.who (omega arith), decimal_printed r.n (omega arith), decimal_printed r.l (omega arith), decimal_printed r.m (omega arith))
 
 -- ---- computed: the paper's second line, 10 0 1 1 0 0, and the largest amount, 4294967295
 

@@ -1,9 +1,8 @@
 -- Listing: the program panel prints a line for each request: call (byte 0), code, running, N, L, M of the reply, decimal, one space between,
 -- no header. A text is its bytes.
-use Rattle.std.specs.Prelude.{ℕ, zero, suc, ◌+◌, ◌-◌, ◌/◌, ◌%◌, Bool, true, false, cond, List, [], ◌∷◌, ◌++◌, ltb, length, set, replicate}
+use Rattle.std.specs.Prelude.{ℕ, zero, suc, ◌+◌, ◌/◌, ◌%◌, Bool, true, false, List, [], ◌∷◌, ◌++◌, ltb}
 use Rattle.records.specs.declared.Record.{Record}
 use Rattle.records.specs.Records.{code, running}
-use Rattle.listing.specs.declared.Line.{Line}
 
 -- The bytes of a digit, 0 to 9, of a space and of a line end
 abbrev pub digit : ℕ → ℕ
@@ -15,7 +14,7 @@ space = 32
 abbrev pub line_end : ℕ
 line_end = 10
 
--- How many bytes a line has room for
+-- How many bytes a line has at most: six numbers of 3, 3, 3, 3, 3 and 10 digits, and a byte behind each
 abbrev pub room : ℕ
 room = 40
 
@@ -43,15 +42,6 @@ line_of call reply =
     ++ field reply.l space
     ++ field reply.m line_end
 
--- A text in a line's room, with zeros behind it
-unfoldable pub lined : List ℕ → Line
-lined text = record { bytes = text ++ replicate (room - length text) 0; length = length text }
-
--- A line with one byte more, or as it was where there is no room
-unfoldable pub pushed : Line → ℕ → Line
-pushed l b = cond (ltb l.length room) (record { bytes = set l.bytes l.length b; length = l.length + 1 }) l
-
--- A line with a text more, byte by byte
-unfoldable pub written : Line → List ℕ → Line
-written l [] = l
-written l (b ∷ text) = written (pushed l b) text
+-- The line with this text: a line is its text
+abbrev pub lined : List ℕ → List ℕ
+lined text = text

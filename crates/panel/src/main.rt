@@ -3,41 +3,24 @@
 // with its error.
 #![tactic(auto)]
 
-ghost use Rattle.std.specs.Prelude.{◌≤◌};
-
 use std::io;
-use std::io::Read;
+use std::io::{BufWriter, Read, Write};
 
 // The bytes of a record.
 const RECORD: usize = records::LENGTH;
 
-// A round reads at most so many bytes, 910 records, and writes at most as many lines of 40 bytes.
+// A round reads at most so many bytes, 910 records, and then writes their lines.
 const ROUND: usize = 910 * RECORD;
 
-const LINES: usize = 910 * listing::ROOM;
-
-// Copies a line behind the text so far, as far as there is room; answers where the text ends then.
-fn appended(out: &mut [u8], at: usize, line: listing::Line) -> usize {
-    let mut end = at;
-    for b in line.bytes.iter().take(line.length) {
-        if end < out.len() {
-            out[end] = *b;
-            end += 1;
-        }
-    }
-    end
-}
-
-// Plays the whole records of the input; answers how many bytes of text they gave.
-fn played(state: &mut [u8], input: &[u8], out: &mut [u8]) -> usize {
+// Plays the whole records of the input; a line for each.
+fn play(state: &mut [u8], input: &[u8], lines: &mut impl Write) -> io::Result<()> {
     let mut reply = [0u8; RECORD];
-    let mut end = 0;
     let (requests, _) = input.as_chunks::<RECORD>();
     for request in requests {
         kernel::brombeertor_call(state, request, &mut reply);
-        end = appended(out, end, listing::line_for(request[0], &reply));
+        write!(lines, "{}", listing::line_for(request[0], &reply))?;
     }
-    end
+    lines.flush()
 }
 
 // The last line, where bytes are left over.
@@ -48,24 +31,16 @@ fn left_over(rt: &impl Print, n: usize) -> io::Result<()> {
     println!(rt; "short {n}")
 }
 
-// The lesser of two numbers.
-fn least(a: usize, b: usize) -> usize
-    ensures { result ≤ b }
-{
-    if a < b { a } else { b }
-}
-
 // A round that reads less than it may is the last one: the input has ended.
 fn main(rt: HostRuntime) -> io::Result<()> {
     let mut state = [0u8; layout::LENGTH];
-    let mut input = Vec::with_capacity(rt.alloc(), ROUND)?;
-    let mut out = [0u8; LINES];
     kernel::brombeertor_fresh(&mut state);
+    let mut input = Vec::with_capacity(rt.alloc(), ROUND)?;
+    let mut lines = BufWriter::new(rt.alloc(), rt.stdout())?;
     for _ in 0..u64::MAX {
         input.clear();
         let got = rt.stdin().take(ROUND as u64).read_to_end(&mut input)?;
-        let n = least(played(&mut state, input.as_slice(), &mut out), LINES);
-        rt.write_all(&out[..n])?;
+        play(&mut state, input.as_slice(), &mut lines)?;
         if got < ROUND {
             return left_over(&rt, got % RECORD);
         }

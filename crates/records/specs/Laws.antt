@@ -1,6 +1,7 @@
 -- A record and its 72 bytes say the same. Assumes nothing.
 use Rattle.std.specs.Prelude.{ℕ, zero, suc, ◌+◌, ◌*◌, ◌/◌, ◌%◌, ◌^◌, ◌<◌, ◌≡◌, refl, List, [], ◌∷◌, ◌++◌, length, take, drop}
 use Rattle.std.proofs.Common.{sym, ap, ◌∙◌, arith, pow-suc, eq-eqb, length-append, length-drop, take-append-drop, take_all, take_at, drop_at, drop-cons, drop-drop, get_or-drop, length-take-le}
+use Rattle.std.specs.Int.{w16, w32, to_le_bytes, from_le_bytes}
 use Rattle.records.specs.declared.Record.{Record}
 use Rattle.records.specs.Records.{data_length, record_length, number, low_first, bytes_of, record_of, record_at, written_to, Bytes, Proper}
 
@@ -25,6 +26,35 @@ low_first_number (b ∷ s) h =
     let low : (b + 256 * number s) % 256 ≡ b = omega (arith, h 0) in
     let rest : (b + 256 * number s) / 256 ≡ number s = omega (arith, h 0) in
     rw (low, rest) (ap (λ l. b ∷ l) (low_first_number s (λ i. h (suc i))))
+
+-- The library's words for them: the bytes of a number, four and two,
+pub low_first_4 : (x : ℕ) → to_le_bytes w32 x ≡ low_first 4 x
+unfolding low_first
+low_first_4 x =
+    let third : x / 65536 ≡ x / 256 / 256 = omega arith in
+    let fourth : x / 16777216 ≡ x / 256 / 256 / 256 = omega arith in
+    rw (third, fourth)
+
+pub low_first_2 : (x : ℕ) → to_le_bytes w16 x ≡ low_first 2 x
+unfolding low_first
+low_first_2 x = refl
+
+-- and the number of four bytes, and of two
+pub number_4 : (s : List ℕ) → length s ≡ 4 → from_le_bytes w32 s ≡ number s
+unfolding number
+number_4 [] h = absurd (omega arith)
+number_4 (a ∷ []) h = absurd (omega arith)
+number_4 (a ∷ b ∷ []) h = absurd (omega arith)
+number_4 (a ∷ b ∷ c ∷ []) h = absurd (omega arith)
+number_4 (a ∷ b ∷ c ∷ d ∷ []) h = omega arith
+number_4 (a ∷ b ∷ c ∷ d ∷ e ∷ s) h = absurd (omega arith)
+
+pub number_2 : (s : List ℕ) → length s ≡ 2 → from_le_bytes w16 s ≡ number s
+unfolding number
+number_2 [] h = absurd (omega arith)
+number_2 (a ∷ []) h = absurd (omega arith)
+number_2 (a ∷ b ∷ []) h = omega arith
+number_2 (a ∷ b ∷ c ∷ s) h = absurd (omega arith)
 
 -- A part of a list of bytes has bytes only
 pub bytes_drop : (n : ℕ) (s : List ℕ) → Bytes s → Bytes (drop n s)

@@ -28,7 +28,7 @@ pub struct Record {
 pub fn number_of(a: u8, b: u8, c: u8, d: u8) -> u32
     ensures { result ≡ number (a ∷ b ∷ c ∷ d ∷ []) }
 {
-    a as u32 + 256 * (b as u32 + 256 * (c as u32 + 256 * (d as u32)))
+    u32::from_le_bytes([a, b, c, d])
 }
 
 // A record of zeros.
@@ -53,11 +53,7 @@ pub fn read(s: &[u8]) -> Record
         return zero_record();
     }
     let mut bytes = [0; DATA];
-    let mut i = 0;
-    while i < DATA {
-        bytes[i] = s[8 + i];
-        i += 1;
-    }
+    bytes.copy_from_slice(&s[8..]);
     Record {
         what: s[0],
         who: s[1],
@@ -75,18 +71,7 @@ pub fn write(s: &mut [u8], r: Record)
     if s.len() != LENGTH {
         return;
     }
-    let m = r.m;
-    s[0] = r.what;
-    s[1] = r.who;
-    s[2] = r.n;
-    s[3] = r.l;
-    s[4] = (m % 256) as u8;
-    s[5] = (m / 256 % 256) as u8;
-    s[6] = (m / 256 / 256 % 256) as u8;
-    s[7] = (m / 256 / 256 / 256 % 256) as u8;
-    let mut i = 0;
-    while i < DATA {
-        s[8 + i] = r.bytes[i];
-        i += 1;
-    }
+    let [a, b, c, d] = r.m.to_le_bytes();
+    s[..8].copy_from_slice(&[r.what, r.who, r.n, r.l, a, b, c, d]);
+    s[8..].copy_from_slice(&r.bytes);
 }

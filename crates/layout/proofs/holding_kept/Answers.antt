@@ -1,7 +1,6 @@
--- `layout::holding_kept` meets its contract: the callee's number.
-use Rattle.layout.specs.Kept.{holding_fits}
+use Rattle.std.proofs.Common.{sym}
+use Rattle.layout.specs.Kept.{holding_is}
 use Rattle.layout.proofs.holding_kept.Goals as goal
 
 pub returns : goal.returns
-unfolding holding_fits
-returns c = simp (← c.most_length.ensures)
+returns c = sym (holding_is c.args.bytes.now c.told-bytes)

@@ -1,15 +1,37 @@
 -- `layout::is_state` meets its contract: where reading loses nothing, the bytes are those of the tables that are read.
-use mathlib.Core.Path.{sym}
-use native.Mathlib.Omega.{arith}
-use Rattle.records.specs.Records.{Bytes}
-use Rattle.layout.specs.Laws.{is_state_kept, is_state_short}
+use Rattle.std.proofs.Common.{◌≡◌, sym, refl, arith, ◌∙◌}
+use Rattle.layout.specs.Layout.{is_state, processes_kept, structures_kept, holdings_kept}
+use Rattle.layout.specs.Laws.{kept, is_state_kept, is_state_short}
+use Rattle.layout.proofs.Laws.{all_entries}
 use Rattle.layout.proofs.is_state.Goals as goal
+use Rattle.layout.proofs.is_state.Goals.{then-processes_kept, else-processes_kept}
 
-pub returns-then-s-ne-LENGTH : goal.returns-then-s-ne-LENGTH
-returns-then-s-ne-LENGTH c = sym (is_state_short c.args.s.now c.if-s-ne-LENGTH.true)
+pub returns-in_default : goal.returns-in_default
+returns-in_default c = sym (is_state_short c.args.s.now c.in_default.ensures.cases)
 
-pub returns : goal.returns
-returns c =
+pub returns-then-structures_kept : goal.returns-then-structures_kept
+returns-then-structures_kept c =
     let s = c.args.s.now in
-    let bytes : Bytes s = λ i. omega (arith, c.type_inv.s i) in
-    rw (c.processes_kept.ensures, c.structures_kept.ensures, c.holdings_kept.ensures) (sym (is_state_kept s c.if-s-ne-LENGTH.false bytes))
+    let is : is_state s ≡ kept s = is_state_kept s (c.in-Some.ensures.variant.0 refl) (λ i. omega (arith, c.type_inv.s i)) in
+    let same = c.in-Some.ensures.cases.same in
+    let processes : c.processes_kept.result ≡ processes_kept s = rw (c.processes_kept.ensures, all_entries, same) in
+    let holdings : c.holdings_kept.result ≡ holdings_kept s = rw (c.holdings_kept.ensures, all_entries, same) in
+    elim c.if-processes_kept.branch [
+      | then-processes_kept w ↦
+          let structures : w.structures_kept.result ≡ structures_kept s = rw (w.structures_kept.ensures, all_entries, same) in
+          rw (is, sym processes ∙ w.if-processes_kept.true, sym structures ∙ sym w.value-is ∙ c.if-structures_kept.true) holdings
+      | else-processes_kept w ↦ absurd (cc)
+    ]
+
+pub returns-else-structures_kept : goal.returns-else-structures_kept
+returns-else-structures_kept c =
+    let s = c.args.s.now in
+    let is : is_state s ≡ kept s = is_state_kept s (c.in-Some.ensures.variant.0 refl) (λ i. omega (arith, c.type_inv.s i)) in
+    let same = c.in-Some.ensures.cases.same in
+    let processes : c.processes_kept.result ≡ processes_kept s = rw (c.processes_kept.ensures, all_entries, same) in
+    elim c.if-processes_kept.branch [
+      | then-processes_kept w ↦
+          let structures : w.structures_kept.result ≡ structures_kept s = rw (w.structures_kept.ensures, all_entries, same) in
+          rw (is, sym processes ∙ w.if-processes_kept.true, sym structures ∙ sym w.value-is ∙ c.if-structures_kept.false) c.if-structures_kept.false
+      | else-processes_kept w ↦ rw (is, sym processes ∙ w.if-processes_kept.false) c.if-structures_kept.false
+    ]

@@ -1,9 +1,5 @@
 -- `layout::write_bytes` meets its contract: the parts follow each other from the bays on, up to the end.
-use mathlib.Core.Path.{◌≡◌}
-use native.Mathlib.Omega.{arith}
-use borrow.Author.Rules.{rules}
-use borrow.Author.Tests.{eq-eqb, ne_eqb}
-use lib.ListN.{length}
+use Rattle.std.proofs.Common.{◌≡◌, length, arith, rules, eq-eqb, ne_eqb}
 use Rattle.basics.specs.Lists.{len_map}
 use Rattle.layout.specs.Layout.{bays_at, state_length, held_bytes, bytes_to}
 use Rattle.layout.specs.Laws.{bays_size, holdings_size, ring_bytes_size, parcel_bytes_size}
@@ -26,8 +22,8 @@ returns c =
     begun_more _ _ 2048
     (begun_more _ _ 2048
     (begun_more _ _ 64
-    (begun_more _ _ 48 (begun_none s bays_at) (bays_size _ r) (omega arith) c.write_bays.ensures)
-    (holdings_size _ p) (omega arith) c.write_holdings.ensures)
-    (ring_bytes_size _ (rings_typed c.args.rings _ c.well_formed.1.0) r) (omega arith) c.write_ring_bytes.ensures)
-    (parcel_bytes_size _ (parcels_typed c.args.parcels _ c.well_formed.1.1.0) p) (omega arith) c.write_parcel_bytes.ensures in
+    (begun_more _ _ 48 (begun_none s bays_at) (bays_size _ r) (omega arith) c.write_entries.ensures)
+    (holdings_size _ p) (omega arith) c.write_entries-2.ensures)
+    (ring_bytes_size _ (rings_typed c.args.rings _ c.well_formed.1.0) r) (omega arith) c.write_entries-3.ensures)
+    (parcel_bytes_size _ (parcels_typed c.args.parcels _ c.well_formed.1.1.0) p) (omega arith) c.write_entries-4.ensures in
     rw (eq-eqb (length s) state_length long) (begun_end all (omega arith))

@@ -1,4 +1,4 @@
--- `records::number_of` meets its contract: four bytes fit a u32.
+-- `records::number_of` meets its contract: the sum of the bytes by their worth, low byte first.
 use native.Mathlib.Omega.{arith}
 use Rattle.records.specs.Records.{number}
 use Rattle.records.proofs.number_of.Goals as goal
