@@ -14,6 +14,7 @@ ghost use Rattle.kernel.specs.Stored.{stored};
 use answers::{Answer, Outcome, Step};
 use calls::Deed;
 use records::Record;
+use rings::Form;
 
 // How many bytes a state has.
 pub fn brombeertor_state_length() -> usize
@@ -152,10 +153,10 @@ pub fn brombeertor_call(state: &mut [u8], request: &[u8], answer: &mut [u8]) -> 
         Deed::SignalAll => semaphores::all_signalled(t, r.n),
         Deed::Wait => semaphores::waited(t, r.n),
         Deed::ConditionalWait => semaphores::conditionally_waited(t, r.n),
-        Deed::Put => rings::put_in(t, r.n, r.l, r.bytes, true),
-        Deed::ConditionalPut => rings::put_in(t, r.n, r.l, r.bytes, false),
-        Deed::Get => rings::got(t, r.n, r.l, true),
-        Deed::ConditionalGet => rings::got(t, r.n, r.l, false),
+        Deed::Put => rings::put_in(t, r.n, r.l, r.bytes, Form::Waiting),
+        Deed::ConditionalPut => rings::put_in(t, r.n, r.l, r.bytes, Form::Conditional),
+        Deed::Get => rings::got(t, r.n, r.l, Form::Waiting),
+        Deed::ConditionalGet => rings::got(t, r.n, r.l, Form::Conditional),
         Deed::ResetRing => rings::reset_ring(t, r.n),
         Deed::Collect => rings::collected(t),
     };

@@ -252,8 +252,8 @@ fn refused_transfer(t: &Tables, r: &Record) -> Result<(), Refusal>
 fn refused_creation(t: &Tables, r: &Record) -> Result<(), Refusal>
     ensures { refused_as result ≡ refused_creation t.now r.now }
 {
-    let full = structures::free_number(t.structures) == 0
-        || r.l == 3 && structures::free_bay(t.structures) == 0;
+    let full = structures::free_number(t.structures).is_none()
+        || r.l == 3 && structures::free_bay(t.structures).is_none();
     refuse_if(full, Refusal::StructuresFull)
 }
 
@@ -265,7 +265,7 @@ fn late(t: &Tables, r: &Record, deed: Deed) -> Result<(), Refusal>
     match deed {
         Deed::CreateProcess => {
             refuse_if(
-                processes::free_process(t.processes) == 0,
+                processes::free_process(t.processes).is_none(),
                 Refusal::ProcessesFull,
             )
         }
