@@ -114,15 +114,16 @@ pub fn waited(t: Tables, n: u8) -> Step
     }
 }
 
-// Conditional wait: as wait if the value is above 0.
-#[tactic(auto, unfolding(crate::specs::Semaphores::conditionally_waited))]
+// Conditional wait: as wait if the value is above 0. (Not by a call of `waited`, which would copy the tables once more.)
+#[tactic(auto, unfolding(crate::specs::Semaphores::conditionally_waited, crate::specs::Semaphores::waited, crate::specs::Semaphores::waited_at))]
 pub fn conditionally_waited(t: Tables, n: u8) -> Step
     ensures { result ≡ conditionally_waited n t }
 {
-    if value_of(kind_of(t, n)) == 0 {
+    let kind = kind_of(t, n);
+    if t.running == 0 || value_of(kind) == 0 {
         return answers::plainly(t, Outcome::No);
     }
-    waited(t, n)
+    answers::plainly(with_kind(t, n, lowered(kind)), Outcome::Done)
 }
 
 // With a line its head is released and the value stays; with none the value rises.
@@ -147,15 +148,18 @@ pub fn signalled(t: Tables, n: u8) -> Step
     }
 }
 
-// Conditional signal: as signal if there is a line.
-#[tactic(auto, unfolding(crate::specs::Semaphores::conditionally_signalled, crate::specs::Semaphores::has_line))]
+// Conditional signal: as signal if there is a line. (Not by a call of `signalled`, which would look for its head once more.)
+#[tactic(auto, unfolding(crate::specs::Semaphores::conditionally_signalled, crate::specs::Semaphores::signalled, crate::specs::Semaphores::signalled_at, crate::specs::Semaphores::has_line, ready::specs::Ready::let_through))]
 pub fn conditionally_signalled(t: Tables, n: u8) -> Step
     ensures { result ≡ conditionally_signalled n t }
 {
-    if tables::head_of(t, Line::Semaphore(n)).is_none() {
+    let Some(p) = tables::head_of(t, Line::Semaphore(n)) else {
+        return answers::plainly(t, Outcome::No);
+    };
+    if !tables::is_semaphore(kind_of(t, n)) {
         return answers::plainly(t, Outcome::No);
     }
-    signalled(t, n)
+    answers::plainly(ready::released(t, p), Outcome::Done)
 }
 
 // Those of them who are somebody are released in order, and the answer says how many.
