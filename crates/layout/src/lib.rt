@@ -83,6 +83,7 @@ fn place_of(code: u8, n: u8, k: u32) -> Place
 }
 
 // The process of these bytes.
+#[tactic(auto, using(crate::proofs::Laws::amount_number), unfolding(crate::specs::Layout::process_from))]
 fn process_from(bytes: &[u8; 8]) -> Process
     ensures { result ≡ process_from bytes.now }
 {
@@ -119,6 +120,7 @@ fn kind_of(k: u8, v: u16) -> Kind
 }
 
 // The structure of these bytes.
+#[tactic(auto, using(crate::proofs::Laws::value_number), unfolding(crate::specs::Layout::structure_from))]
 fn structure_from(bytes: &[u8; 3]) -> Structure
     ensures { result ≡ structure_from bytes.now }
 {
@@ -129,6 +131,7 @@ fn structure_from(bytes: &[u8; 3]) -> Structure
 }
 
 // The ring of these numbers and bytes.
+#[tactic(auto, using(crate::proofs::Laws::pair_number), unfolding(crate::specs::Layout::bay_from))]
 fn bay_from(numbers: &[u8; 6], bytes: &[u8; 256]) -> Ring
     ensures { result ≡ bay_from numbers.now bytes.now }
 {
@@ -142,6 +145,7 @@ fn bay_from(numbers: &[u8; 6], bytes: &[u8; 256]) -> Ring
 }
 
 // The parcel of these two bytes, which tell what it holds, and those that it holds.
+#[tactic(auto, using(crate::proofs::Laws::some_if), unfolding(crate::specs::Layout::parcel_from, crate::specs::Layout::holding_of))]
 fn parcel_from(holding: &[u8; 2], bytes: &[u8; 64]) -> Parcel
     ensures { result ≡ parcel_from holding.now bytes.now }
 {
@@ -165,6 +169,7 @@ trait Stored<const N: usize> {
 impl Stored<8> for Process {
     ghost stored = { process_bytes };
 
+    #[tactic(auto, using(records::specs::Laws::low_first_4, crate::proofs::Laws::flag_is), unfolding(crate::specs::Layout::process_bytes))]
     fn stored(&self) -> [u8; 8] {
         let [a, b, c, d] = amount_of(self.place).to_le_bytes();
         [
@@ -184,6 +189,7 @@ impl Stored<8> for Process {
 impl Stored<3> for Structure {
     ghost stored = { structure_bytes };
 
+    #[tactic(auto, using(records::specs::Laws::low_first_2), unfolding(crate::specs::Layout::structure_bytes))]
     fn stored(&self) -> [u8; 3] {
         let [low, high] = value_of(self.kind).to_le_bytes();
         [tables::kind_number(self.kind), low, high]
@@ -194,6 +200,7 @@ impl Stored<3> for Structure {
 impl Stored<6> for Ring {
     ghost stored = { bay_bytes };
 
+    #[tactic(auto, using(records::specs::Laws::low_first_2), unfolding(crate::specs::Layout::bay_bytes))]
     fn stored(&self) -> [u8; 6] {
         let [a, b] = self.start.to_le_bytes();
         let [c, d] = self.size.to_le_bytes();
@@ -214,6 +221,7 @@ impl Stored<256> for Ring {
 impl Stored<2> for Parcel {
     ghost stored = { holding_bytes };
 
+    #[tactic(auto, unfolding(crate::specs::Layout::holding_bytes))]
     fn stored(&self) -> [u8; 2] {
         match self.holds {
             Some(length) => [1, length],
@@ -231,6 +239,7 @@ impl Stored<64> for Parcel {
 }
 
 // The entries of a table into s, one behind the other, from its byte `at` on.
+#[tactic(auto, using(crate::proofs::Laws::written_room))]
 fn write_entries<T: Stored<N>, const N: usize>(s: &mut [u8], at: usize, entries: &[T])
     requires { at + length entries.now * N ≤ length s.old }
     ensures { s.new ≡ copied_in s.old at (flat T.stored entries.now) }
@@ -243,6 +252,7 @@ fn write_entries<T: Stored<N>, const N: usize>(s: &mut [u8], at: usize, entries:
 }
 
 // The control part into a buffer of a state's length: running, order, processes, structures. Any other buffer stays as it is.
+#[tactic(auto, unfolding(crate::specs::Layout::control_to))]
 pub fn write_control(
     s: &mut [u8],
     running: u8,
@@ -262,6 +272,7 @@ pub fn write_control(
 }
 
 // What the bays and the parcels hold into such a buffer.
+#[tactic(auto, unfolding(crate::specs::Layout::bytes_to))]
 pub fn write_bytes(s: &mut [u8], rings: [Ring; 8], parcels: [Parcel; 32])
     ensures { s.new ≡ bytes_to s.old rings parcels }
 {
@@ -287,6 +298,7 @@ fn entries<const N: usize>(s: &[u8; LENGTH], from: usize, to: usize) -> &[[u8; N
 
 // The tables that stand in s; fresh ones where it has another length than a state's. Each entry is set in its place: a
 // whole table from a helper would be copied once more.
+#[tactic(auto, using(crate::specs::Laws::decode_short), unfolding(crate::specs::Pieces::entries))]
 pub fn read(s: &[u8]) -> Tables
     ensures { result ≡ decode s.now }
 {
@@ -342,6 +354,7 @@ fn most_amount(code: u8) -> u32
 
 // Does reading lose nothing of the bytes of a process? Here and below `&` and `|` test without a branch: each call asks it of
 // a whole state.
+#[tactic(auto, using(crate::proofs::Laws::amount_number, crate::specs::Kept::process_fits_lem), unfolding(crate::specs::Kept::process_fits))]
 fn process_kept(bytes: &[u8; 8]) -> bool
     ensures { result ≡ process_kept bytes.now }
 {
@@ -363,6 +376,7 @@ fn most_value(kind: u8) -> u16
 }
 
 // Does reading lose nothing of the bytes of a structure?
+#[tactic(auto, using(crate::proofs::Laws::value_number, crate::specs::Kept::structure_fits_lem), unfolding(crate::specs::Kept::structure_fits))]
 fn structure_kept(bytes: &[u8; 3]) -> bool
     ensures { result ≡ structure_kept bytes.now }
 {
@@ -371,6 +385,7 @@ fn structure_kept(bytes: &[u8; 3]) -> bool
 }
 
 // Does reading lose nothing of the bytes that tell what a parcel holds?
+#[tactic(auto, using(crate::specs::Kept::holding_is))]
 fn holding_kept(bytes: &[u8; 2]) -> bool
     ensures { result ≡ holding_kept bytes.now }
 {
@@ -398,6 +413,7 @@ fn holdings_kept(s: &[u8; LENGTH]) -> bool
 }
 
 // Are these the bytes of some tables? Only what reading could lose is compared: the rest reads one to one.
+#[tactic(auto, using(crate::specs::Laws::is_state_short))]
 pub fn is_state(s: &[u8]) -> bool
     ensures { result ≡ is_state s.now }
 {

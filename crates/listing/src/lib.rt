@@ -31,6 +31,7 @@ impl fmt::Display for Line {
 
     ghost output = { λ l. Some l };
 
+    #[tactic(auto, using(crate::specs::Laws::line_printed))]
     fn fmt<W: fmt::Write>(&self, f: &mut fmt::Formatter<W>) -> fmt::Result {
         let call = self.call;
         let Record {

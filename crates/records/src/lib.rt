@@ -25,6 +25,7 @@ pub struct Record {
 }
 
 // The number of four bytes, low byte first.
+#[tactic(auto, unfolding(crate::specs::Records::number))]
 pub fn number_of(a: u8, b: u8, c: u8, d: u8) -> u32
     ensures { result ≡ number (a ∷ b ∷ c ∷ d ∷ []) }
 {
@@ -46,6 +47,7 @@ fn zero_record() -> Record
 }
 
 // The record that stands in 72 bytes; of any other number of bytes a record of zeros.
+#[tactic(auto, using(crate::proofs::Laws::four), unfolding(crate::specs::Records::record_at, crate::specs::Records::record_of))]
 pub fn read(s: &[u8]) -> Record
     ensures { result ≡ record_at s.now }
 {
@@ -65,6 +67,7 @@ pub fn read(s: &[u8]) -> Record
 }
 
 // The record into 72 bytes; any other number of bytes stays as it is.
+#[tactic(auto, unfolding(crate::specs::Records::written_to))]
 pub fn write(s: &mut [u8], r: Record)
     ensures { s.new ≡ written_to s.old r }
 {

@@ -1,13 +1,10 @@
 -- `layout::is_state` meets its contract: where reading loses nothing, the bytes are those of the tables that are read.
 use Rattle.std.proofs.Common.{◌≡◌, sym, refl, arith, ◌∙◌}
 use Rattle.layout.specs.Layout.{is_state, processes_kept, structures_kept, holdings_kept}
-use Rattle.layout.specs.Laws.{kept, is_state_kept, is_state_short}
+use Rattle.layout.specs.Laws.{kept, is_state_kept}
 use Rattle.layout.proofs.Laws.{all_entries}
 use Rattle.layout.proofs.is_state.Goals as goal
 use Rattle.layout.proofs.is_state.Goals.{then-processes_kept, else-processes_kept}
-
-pub returns-in_default : goal.returns-in_default
-returns-in_default c = sym (is_state_short c.args.s.now c.in_default.ensures.cases)
 
 pub returns-then-structures_kept : goal.returns-then-structures_kept
 returns-then-structures_kept c =

@@ -1,18 +1,11 @@
 -- `layout::read` meets its contract: each table is that of the bytes once all its entries are read.
-use Rattle.std.proofs.Common.{◌≡◌, ◌∙◌, refl, sym, ap, arith, length, eq-eqb}
-use Rattle.layout.specs.Pieces.{entries, part}
+use Rattle.std.proofs.Common.{◌≡◌, ◌∙◌, refl, ap, arith, length, eq-eqb}
+use Rattle.layout.specs.Pieces.{part}
 use Rattle.layout.specs.Layout.{processes_at, structures_at, bays_at, holdings_at, ring_bytes_at, parcel_bytes_at, process_from, structure_from, process_in, structure_in, bay_in, parcel_in, tables_of, decode, state_length}
-use Rattle.layout.specs.Laws.{decode_short, fresh_typed}
+use Rattle.layout.specs.Laws.{fresh_typed}
 use Rattle.layout.specs.Typed.{Typed}
 use Rattle.layout.proofs.Laws.{entry_at, filled_more, filled_all}
 use Rattle.layout.proofs.read.Goals as goal
-
-pub returns-in_default : goal.returns-in_default
-returns-in_default c = c.fresh-t.ensures ∙ sym (decode_short c.args.s.now c.in_default.ensures.cases)
-
-pub loop-i-init : goal.loop-i-init
-unfolding entries
-loop-i-init c = refl
 
 pub loop-i-preserved : goal.loop-i-preserved
 unfolding process_in
@@ -22,10 +15,6 @@ loop-i-preserved c =
     let one = entry_at processes_at 8 32 o.i c.entries-processes.ensures.each c.in-Some.ensures.cases.same c.loop-i-test.true in
     let next : c.process_from.result ≡ process_in c.args.s.now o.i = c.process_from.ensures ∙ ap process_from one in
     rw (o.invariant, filled_more (process_in c.args.s.now) c.fresh-t.result.processes o.i _ (omega (arith, typed.processes_long)) next)
-
-pub loop-i-2-init : goal.loop-i-2-init
-unfolding entries
-loop-i-2-init c = refl
 
 pub loop-i-2-preserved : goal.loop-i-2-preserved
 unfolding structure_in
@@ -37,10 +26,6 @@ loop-i-2-preserved c =
     let next : c.structure_from.result ≡ structure_in c.args.s.now o.i = c.structure_from.ensures ∙ ap structure_from one in
     rw (o.invariant, filled_more (structure_in c.args.s.now) c.loop-i.t.structures o.i _ (omega (arith, long)) next)
 
-pub loop-i-3-init : goal.loop-i-3-init
-unfolding entries
-loop-i-3-init c = refl
-
 pub loop-i-3-preserved : goal.loop-i-3-preserved
 unfolding bay_in
 loop-i-3-preserved c =
@@ -51,10 +36,6 @@ loop-i-3-preserved c =
     let bytes = entry_at ring_bytes_at 256 8 o.i c.entries-ring_bytes.ensures.each c.in-Some.ensures.cases.same c.loop-i-3-test.true in
     let next : c.bay_from.result ≡ bay_in c.args.s.now o.i = c.bay_from.ensures ∙ rw (numbers, bytes) in
     rw (o.invariant, filled_more (bay_in c.args.s.now) c.loop-i-2.t.rings o.i _ (omega (arith, long)) next)
-
-pub loop-i-4-init : goal.loop-i-4-init
-unfolding entries
-loop-i-4-init c = refl
 
 pub loop-i-4-preserved : goal.loop-i-4-preserved
 unfolding parcel_in

@@ -1,15 +1,11 @@
 -- `layout::write_bytes` meets its contract: the parts follow each other from the bays on, up to the end.
-use Rattle.std.proofs.Common.{◌≡◌, length, arith, rules, eq-eqb, ne_eqb}
+use Rattle.std.proofs.Common.{◌≡◌, length, arith, rules, eq-eqb}
 use Rattle.basics.specs.Lists.{len_map}
 use Rattle.layout.specs.Layout.{bays_at, state_length, held_bytes, bytes_to}
 use Rattle.layout.specs.Laws.{bays_size, holdings_size, ring_bytes_size, parcel_bytes_size}
 use Rattle.layout.proofs.Owned.{rings_typed, parcels_typed}
 use Rattle.layout.proofs.Laws.{begun_none, begun_more, begun_end}
 use Rattle.layout.proofs.write_bytes.Goals as goal
-
-pub returns-then-s-ne-LENGTH : goal.returns-then-s-ne-LENGTH
-unfolding bytes_to
-returns-then-s-ne-LENGTH c = rw (ne_eqb (length c.args.s.now) state_length c.if-s-ne-LENGTH.true)
 
 pub returns : goal.returns
 unfolding bytes_to held_bytes

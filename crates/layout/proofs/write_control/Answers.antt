@@ -1,15 +1,11 @@
 -- `layout::write_control` meets its contract: the parts follow each other from the first byte on.
-use Rattle.std.proofs.Common.{◌≡◌, refl, sym, length, set, arith, rules, eq-eqb, ne_eqb}
+use Rattle.std.proofs.Common.{◌≡◌, refl, sym, length, set, arith, rules, eq-eqb}
 use Rattle.basics.specs.Lists.{len_map}
 use Rattle.layout.specs.Layout.{state_length, control_bytes, control_to}
 use Rattle.layout.specs.PieceLaws.{copied_byte}
 use Rattle.layout.specs.Laws.{processes_size, structures_size}
 use Rattle.layout.proofs.Laws.{put_copied, begun_none, begun_more, begun_all}
 use Rattle.layout.proofs.write_control.Goals as goal
-
-pub returns-then-s-ne-LENGTH : goal.returns-then-s-ne-LENGTH
-unfolding control_to
-returns-then-s-ne-LENGTH c = rw (ne_eqb (length c.args.s.now) state_length c.if-s-ne-LENGTH.true)
 
 pub returns : goal.returns
 unfolding control_to control_bytes

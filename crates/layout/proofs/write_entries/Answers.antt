@@ -1,19 +1,9 @@
-use Rattle.std.proofs.Common.{◌≡◌, ◌+◌, ◌≤◌, refl, ◌∙◌, arith, rules, length, length-drop, length-take-le}
+use Rattle.std.proofs.Common.{◌≡◌, ◌+◌, ◌≤◌, refl, ◌∙◌, arith, length, length-drop, length-take-le}
 use Rattle.layout.proofs.Laws.{written_none, written_room, written_more, written_all}
 use Rattle.layout.proofs.write_entries.Goals as goal
 
 pub loop-entry-init : goal.loop-entry-init
 loop-entry-init g c = written_none _ _ _ _ _
-
-pub overflow_add-next : goal.overflow_add-next
-overflow_add-next g c =
-    let room : c.loop-entry.next + g.row.N ≤ length c.args.s.now = written_room _ _ _ _ _ c.loop-entry.invariant c.loop-entry-test.true c.requires in
-    search rules
-
-pub slice_bounds-copy_from_slice-end : goal.slice_bounds-copy_from_slice-end
-slice_bounds-copy_from_slice-end g c =
-    let room : c.loop-entry.next + g.row.N ≤ length c.args.s.now = written_room _ _ _ _ _ c.loop-entry.invariant c.loop-entry-test.true c.requires in
-    search rules
 
 pub loop-entry-preserved : goal.loop-entry-preserved
 loop-entry-preserved g c =

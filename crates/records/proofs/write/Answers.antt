@@ -1,13 +1,9 @@
 -- `records::write` meets its contract: the front and the data, over all 72 bytes.
-use Rattle.std.proofs.Common.{◌≡◌, ◌∙◌, length, arith, eq-eqb, ne_eqb}
+use Rattle.std.proofs.Common.{◌≡◌, ◌∙◌, length, arith, eq-eqb}
 use Rattle.records.specs.Records.{record_length, written_to, bytes_of}
 use Rattle.records.specs.Laws.{low_first_4}
 use Rattle.records.proofs.Laws.{both_parts}
 use Rattle.records.proofs.write.Goals as goal
-
-pub returns-then-s-ne-LENGTH : goal.returns-then-s-ne-LENGTH
-unfolding written_to
-returns-then-s-ne-LENGTH c = rw (ne_eqb (length c.args.s.now) record_length c.if-s-ne-LENGTH.true)
 
 pub returns : goal.returns
 unfolding written_to bytes_of
