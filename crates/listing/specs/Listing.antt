@@ -41,7 +41,3 @@ line_of call reply =
     ++ field reply.n space
     ++ field reply.l space
     ++ field reply.m line_end
-
--- The line with this text: a line is its text
-abbrev pub lined : List ℕ → List ℕ
-lined text = text

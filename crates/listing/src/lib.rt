@@ -2,7 +2,7 @@
 #![tactic(auto)]
 
 ghost use Rattle.std.specs.Prelude.{◌≡◌};
-ghost use Rattle.listing.specs.Listing.{line_of, lined};
+ghost use Rattle.listing.specs.Listing.{line_of};
 ghost use Rattle.records.specs.Records.{record_at};
 
 use records::Record;
@@ -48,14 +48,14 @@ impl fmt::Display for Line {
 
 // The line for a request with this call and this reply: call, code, running, N, L and M, decimal, one space between.
 pub fn line_of(call: u8, reply: Record) -> Line
-    ensures { result ≡ lined (line_of call reply) }
+    ensures { result ≡ line_of call reply }
 {
     Line { call, reply }
 }
 
 // The line for a request with this call and the reply that stands in these 72 bytes.
 pub fn line_for(call: u8, reply: &[u8]) -> Line
-    ensures { result ≡ lined (line_of call (record_at reply.now)) }
+    ensures { result ≡ line_of call (record_at reply.now) }
 {
     line_of(call, records::read(reply))
 }
