@@ -229,12 +229,10 @@ pub fn is_unknown(row: Row) -> bool
 pub fn is_allowed(callers: Callers, caller: u8) -> bool
     ensures { result ≡ allowed callers caller }
 {
-    match callers {
-        Callers::Nobody => false,
-        Callers::Process => caller == 1,
-        Callers::Board => caller == 0,
-        Callers::Either => caller <= 1,
-    }
+    matches!(
+        (callers, caller),
+        (Callers::Board, 0) | (Callers::Process, 1) | (Callers::Either, 0..=1)
+    )
 }
 
 // Does a request's deed change what rings and parcels hold?
