@@ -1,5 +1,5 @@
 -- An array's map; a turn of the serving; where nobody waits; the ways past a line; the lines served one after the other.
-use Prim.Native.Nat.{ℕ, ◌+◌, ◌-◌, ◌<◌}
+use Prim.Native.Nat.{ℕ, ◌+◌, ◌<◌}
 use mathlib.Core.Path.{◌≡◌, refl, sym, ◌∙◌}
 use mathlib.Core.Bool.{Bool, true, false, cond, true≢false}
 use mathlib.Core.List.{List, [], ◌∷◌, map}
@@ -9,6 +9,8 @@ use Rattle.arrivals.specs.Order.{first, keep}
 use Rattle.bay.specs.declared.Parcel.{Parcel}
 use Rattle.bay.specs.declared.Ring.{Ring}
 use Rattle.tables.specs.declared.Tables.{Tables}
+use Rattle.rings.specs.declared.Turns.{Turns}
+use Rattle.std.specs.Prelude.{Some}
 use Rattle.tables.specs.declared.Place.{Place}
 use Rattle.tables.specs.declared.Kind.{Kind}
 use Rattle.tables.specs.declared.Kind.TheVariants as kinds
@@ -18,11 +20,11 @@ use borrow.Author.Tests.{eqb-true}
 use Rattle.tables.specs.Numbers.{code, spot}
 use Rattle.tables.specs.Lines.{stands, standing, line, padded, waits_at, waiting_at, in_lines_of}
 use Rattle.ready.specs.Ready.{with_place, joins, runner_joins}
-use Rattle.rings.specs.Serving.{lengths_of, length_for, getter_goes, putter_goes, in_turn, service, services, turns, served}
+use Rattle.rings.specs.Serving.{lengths_of, length_for, getter_goes, putter_goes, in_turn, to_come, GetterTurn, PutterTurn, service, services, turns, served}
 use Rattle.rings.specs.Rings.{way_to_kind, way_past, way_into_ring, way_into_kind, way_in, way_out_of_ring, way_out_of_kind, way_out}
 use Rattle.rings.proofs.InTurn.{getter_first, putter_first, nobody_first, zeros_behind}
 use native.Mathlib.Omega.{arith}
-use lib.ListN.{length, get_or}
+use lib.ListN.{length, get_or, drop}
 use Rattle.std.specs.List.{between}
 use Rattle.std.proofs.lemmas.Slice.{between_to_end}
 use Rattle.std.proofs.lemmas.List.{same_lists, get_or-map, length-map}
@@ -43,30 +45,51 @@ module _ {F A B : Type 0} (g : Mut F (A × Unit {0}) B) (f : F) (h : A → B) (x
 
 -- ---- a turn of the serving
 
-module _ (k gs ps : List ℕ) (size held p l : ℕ) (b : Bool) (its : l ≡ numbered k p 0) (head : p ≡ first gs) (goes : b ≡ cond (eqb p 0) false (leb l held)) where
-  -- The code's test is the rule's
-  getter_test : getter_goes k held gs ≡ b
-  unfolding getter_goes length_for
-  getter_test = rw (goes, its, head)
+-- The code's tests of the two heads are the rule's
+pub getter_test : (k gs : List ℕ) (held p l : ℕ) (b : Bool) → l ≡ numbered k p 0 → p ≡ first gs → b ≡ cond (eqb p 0) false (leb l held) → getter_goes k held gs ≡ b
+unfolding getter_goes length_for
+getter_test k gs held p l b its head goes = rw (goes, its, head)
 
-  -- The head getter is served, and then whoever comes next
-  pub getter_turn : b ≡ true → in_turn k size held gs ps ≡ p ∷ in_turn k size (held - l) (between 1 (length gs) gs) ps
-  unfolding length_for
-  getter_turn t = rw (getter_first k size held gs ps (getter_test ∙ t), its, head, between_to_end gs 1 (length gs) (omega arith))
+pub putter_test : (k ps : List ℕ) (size held p l : ℕ) (b : Bool) → l ≡ numbered k p 0 → p ≡ first ps → b ≡ cond (eqb p 0) false (leb (held + l) size) → putter_goes k size held ps ≡ b
+unfolding putter_goes length_for
+putter_test k ps size held p l b its head goes = rw (goes, its, head)
 
-  -- If not, it is the head putter's turn
-  module _ (q m : ℕ) (c : Bool) (not : b ≡ false) (theirs : m ≡ numbered k q 0) (first_putter : q ≡ first ps) (fits : c ≡ cond (eqb q 0) false (leb (held + m) size)) where
-    putter_test : putter_goes k size held ps ≡ c
-    unfolding putter_goes length_for
-    putter_test = rw (fits, theirs, first_putter)
+-- A line without its head
+pub behind : (l : List ℕ) → between 1 (length l) l ≡ drop 1 l
+behind l = between_to_end l 1 (length l) (omega arith)
 
-    pub putter_turn : c ≡ true → in_turn k size held gs ps ≡ q ∷ in_turn k size (held + m) gs (between 1 (length ps) ps)
-    unfolding length_for
-    putter_turn t = rw (putter_first k size held gs ps (getter_test ∙ not) (putter_test ∙ t), theirs, first_putter, between_to_end ps 1 (length ps) (omega arith))
+-- A head getter or putter that can go stands in its line
+some_getter : (k : List ℕ) (held : ℕ) (gs : List ℕ) → getter_goes k held gs ≡ true → length (drop 1 gs) < length gs
+unfolding getter_goes
+some_getter k held [] h = absurd (true≢false (sym h))
+some_getter k held (x ∷ gs) h = omega arith
 
-    -- If neither can go, that is all
-    pub nobody_left : c ≡ false → in_turn k size held gs ps ≡ []
-    nobody_left t = nobody_first k size held gs ps (getter_test ∙ not) (putter_test ∙ t)
+some_putter : (k : List ℕ) (size held : ℕ) (ps : List ℕ) → putter_goes k size held ps ≡ true → length (drop 1 ps) < length ps
+unfolding putter_goes
+some_putter k size held [] h = absurd (true≢false (sym h))
+some_putter k size held (x ∷ ps) h = omega arith
+
+-- The head getter is served, and then whoever comes next; fewer are left
+pub getter_out : (old new : Turns) (p : ℕ) → GetterTurn old (Some p) new → to_come old ≡ p ∷ to_come new
+getter_out old new p (goes, head, size, held, lengths, getters, putters) =
+    rw (size, held, lengths, getters, putters, head) (getter_first old.lengths.now old.size old.held old.getters.now old.putters.now goes)
+
+pub fewer_getters : (old new : Turns) (p : ℕ) → GetterTurn old (Some p) new → length new.getters.now + length new.putters.now < length old.getters.now + length old.putters.now
+fewer_getters old new p (goes, head, size, held, lengths, getters, putters) =
+    rw (getters, putters) (omega (arith, some_getter old.lengths.now old.held old.getters.now goes))
+
+-- If it cannot go, the same of the head putter
+pub putter_out : (old new : Turns) (p : ℕ) → getter_goes old.lengths.now old.held old.getters.now ≡ false → PutterTurn old (Some p) new → to_come old ≡ p ∷ to_come new
+putter_out old new p none (goes, head, size, held, lengths, getters, putters) =
+    rw (size, held, lengths, getters, putters, head) (putter_first old.lengths.now old.size old.held old.getters.now old.putters.now none goes)
+
+-- If neither can go, that is all
+pub nobody_left : (left : Turns) → getter_goes left.lengths.now left.held left.getters.now ≡ false → putter_goes left.lengths.now left.size left.held left.putters.now ≡ false → to_come left ≡ []
+nobody_left left g p = nobody_first left.lengths.now left.size left.held left.getters.now left.putters.now g p
+
+pub fewer_putters : (old new : Turns) (p : ℕ) → PutterTurn old (Some p) new → length new.getters.now + length new.putters.now < length old.getters.now + length old.putters.now
+fewer_putters old new p (goes, head, size, held, lengths, getters, putters) =
+    rw (getters, putters) (omega (arith, some_putter old.lengths.now old.size old.held old.putters.now goes))
 
 -- ---- nobody stands in the lines of a ring
 
@@ -151,17 +174,12 @@ pub turns_read : (n b : ℕ) (t : Tables) (ring : Ring) (k gs ps : List ℕ) →
 unfolding turns padded
 turns_read n b t ring k gs ps its known getters putters = rw (its, known, getters, putters, zeros_behind)
 
--- Nobody has been served yet
-pub none_yet : (n b : ℕ) (t : Tables) (l : List ℕ) → l ≡ turns n b t → services b l t ≡ served n b t
-unfolding served
-none_yet n b t l e = rw e
-
--- One more is served
-pub one_more : (b p : ℕ) (l more : List ℕ) (t u : Tables) → l ≡ p ∷ more → u ≡ service b p t → services b more u ≡ services b l t
+-- One is served, and then the others
+pub one_more : (b p : ℕ) (l more : List ℕ) (t u v : Tables) → l ≡ p ∷ more → u ≡ service b p t → v ≡ services b more u → v ≡ services b l t
 unfolding services
-one_more b p l more t u e w = rw (e, w)
+one_more b p l more t u v e w h = rw (e, ← w) h
 
 -- Nobody is left
-pub no_more : (b : ℕ) (l : List ℕ) (t : Tables) → l ≡ [] → services b l t ≡ t
+pub no_more : (b : ℕ) (l : List ℕ) (t : Tables) → l ≡ [] → t ≡ services b l t
 unfolding services
 no_more b l t e = rw e

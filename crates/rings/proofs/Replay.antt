@@ -1,6 +1,6 @@
 -- The services, one after the other, on the parts of the tables that they change: the ring, the order, the processes and the parcels.
 use Prim.Native.Nat.{ℕ, ◌+◌, ◌-◌, ◌%◌, ◌≤◌}
-use mathlib.Core.Path.{◌≡◌, refl, sym, ◌∙◌}
+use mathlib.Core.Path.{ap, ◌≡◌, refl, sym, ◌∙◌}
 use mathlib.Core.Bool.{Bool, true, false, cond, true≢false}
 use mathlib.Core.List.{List}
 use native.Mathlib.Omega.{arith}
@@ -20,20 +20,11 @@ use Rattle.tables.specs.declared.Place.{Place}
 use Rattle.tables.specs.declared.Place.TheVariants.{Nowhere, Running, Ready, Parked, Waiting, Getting, Putting, Asleep}
 use Rattle.tables.specs.Access.{numbered, replaced, nobody, process_of, ring_in, parcel_for, with_ring, with_parcel}
 use Rattle.tables.specs.Lines.{is_number}
-use Rattle.tables.specs.Laws.{numbered_zero, numbered_past, numbered_at, replaced_at, replaced_same, length_replaced, replaced_unseen}
+use Rattle.tables.specs.Laws.{numbered_zero, numbered_past, numbered_at, replaced_at, replaced_same, length_replaced}
 use Rattle.tables.proofs.Laws.{seen}
 use Rattle.ready.specs.Ready.{placed, released_to}
 use Rattle.ready.proofs.Laws.{one_released}
-use Rattle.rings.specs.Serving.{at_ring, exchanged, entered, with_moved, served_getter, served_putter, served_as, service}
-
--- The tables with these parts, the ring in bay b
-abbrev pub parts : Tables → ℕ → Ring → List ℕ → List Process → List Parcel → Tables
-parts t b ring order processes parcels =
-    record { running = t.running; order = order; processes = processes; structures = t.structures; rings = replaced t.rings b ring; parcels = parcels }
-
--- The ring is the one that bay b then has
-abbrev pub Its : Tables → ℕ → Ring → Type 0
-Its t b ring = numbered (replaced t.rings b ring) b empty_bay ≡ ring
+use Rattle.rings.specs.Serving.{IsRingOf, at_ring, exchanged, entered, with_moved, served_getter, served_putter, served_as, service}
 
 -- ---- the ring that is taken out
 
@@ -47,14 +38,13 @@ replaced_again : {A : Type 0} (l : List A) (p : ℕ) (x y : A) → replaced (rep
 unfolding replaced
 replaced_again l p x y = elim (test (eqb p 0)) [ holds z ↦ rw z | fails z ↦ rw z (set-set l (p - 1) x y) ]
 
--- At first the parts are those of the tables
-pub first_parts : (t : Tables) (b : ℕ) (ring : Ring) → ring ≡ ring_in t b → parts t b ring t.order t.processes t.parcels ≡ t
-unfolding ring_in
-first_parts t b ring e = rw (e, unreplaced t.rings b empty_bay)
+-- The ring of bay b is the one that is put back there, and the tables are then as they were
+pub put_back : (t : Tables) (b : ℕ) (ring : Ring) → ring ≡ ring_in t b → with_ring t b ring ≡ t
+unfolding ring_in with_ring
+put_back t b ring e = rw (e, unreplaced t.rings b empty_bay)
 
-pub first_its : (t : Tables) (b : ℕ) (ring : Ring) → ring ≡ ring_in t b → Its t b ring
-unfolding ring_in
-first_its t b ring e = rw e (replaced_unseen t.rings b (numbered t.rings b empty_bay) (λ r. r) empty_bay refl b)
+pub its_first : (t : Tables) (b : ℕ) (ring : Ring) → ring ≡ ring_in t b → IsRingOf b ring t
+its_first t b ring e = ap (λ u. ring_in u b) (put_back t b ring e) ∙ sym e
 
 -- A bay that no ring has gives nothing and takes nothing
 no_get : (l : ℕ) → get_fits 0 0 0 0 l ≡ false
@@ -77,7 +67,8 @@ empty_stays (Putting n l) x = rw (no_put l)
 empty_stays (Asleep k) x = refl
 
 -- After a service it is still the one of bay b
-pub its_again : (t : Tables) (b : ℕ) (ring : Ring) (place : Place) (x : Parcel) (m : Moved) → m ≡ exchanged place ring x → Its t b ring → Its t b m.ring
+pub its_again : (t : Tables) (b : ℕ) (ring : Ring) (place : Place) (x : Parcel) (m : Moved) → m ≡ exchanged place ring x → IsRingOf b ring t → IsRingOf b m.ring t
+unfolding ring_in with_ring
 its_again t b ring place x m e its =
     let none : numbered (replaced t.rings b ring) b empty_bay ≡ empty_bay → empty_bay ≡ m.ring = λ w. rw (e, sym its ∙ w) (sym (empty_stays place x)) in
     elim (test (eqb b 0)) [
@@ -132,12 +123,17 @@ unfolding service process_of
 none_served b p k t c d long e h n =
     away b p (numbered t.processes p nobody).place t (seen at_ring t.processes p d nobody_at long ∙ rw (← e) (sym h ∙ n))
 
+-- The tables after a service: the order, the processes and the parcels are others
+abbrev pub after : Tables → List ℕ → List Process → List Parcel → Tables
+after t order processes parcels =
+    record { running = t.running; order = order; processes = processes; structures = t.structures; rings = t.rings; parcels = parcels }
+
 -- One who does is served: the ring and the parcel are exchanged, and it is released
-module _ (t : Tables) (b : ℕ) (ring : Ring) (order last : List ℕ) (processes : List Process) (parcels : List Parcel) (p : ℕ) (m : Moved) (q d : Process) (x : Parcel)
-    (some : p ≡ 0 → ⊥) (known : p ≤ length processes) (kept : p ≤ length parcels) (its : Its t b ring) (moves : last ≡ moved_last p order)
-    (free : q ≡ placed (get_or processes (p - 1) d) (released_to (get_or processes (p - 1) d).suspended)) where
-  served_as_lem : (place : Place) → at_ring place ≡ true → m ≡ exchanged place ring (get_or parcels (p - 1) x)
-      → parts t b m.ring last (set processes (p - 1) q) (set parcels (p - 1) m.parcel) ≡ served_as b p place (parts t b ring order processes parcels)
+module _ (t : Tables) (b : ℕ) (ring : Ring) (last : List ℕ) (p : ℕ) (m : Moved) (q d : Process) (x : Parcel)
+    (some : p ≡ 0 → ⊥) (known : p ≤ length t.processes) (kept : p ≤ length t.parcels) (its : IsRingOf b ring t) (moves : last ≡ moved_last p t.order)
+    (free : q ≡ placed (get_or t.processes (p - 1) d) (released_to (get_or t.processes (p - 1) d).suspended)) where
+  served_as_lem : (place : Place) → at_ring place ≡ true → m ≡ exchanged place ring (get_or t.parcels (p - 1) x)
+      → with_ring (after t last (set t.processes (p - 1) q) (set t.parcels (p - 1) m.parcel)) b m.ring ≡ served_as b p place (with_ring t b ring)
   unfolding at_ring exchanged served_as served_getter served_putter with_moved entered with_ring with_parcel ring_in parcel_for
   served_as_lem Nowhere h e = absurd (true≢false (sym h))
   served_as_lem Running h e = absurd (true≢false (sym h))
@@ -145,27 +141,27 @@ module _ (t : Tables) (b : ℕ) (ring : Ring) (order last : List ℕ) (processes
   served_as_lem Parked h e = absurd (true≢false (sym h))
   served_as_lem (Waiting n) h e = absurd (true≢false (sym h))
   served_as_lem (Getting n l) h e =
-      let g : Moved = get_of ring (get_or parcels (p - 1) x) 0 l in
-      let u : Tables = parts t b g.ring order processes (set parcels (p - 1) g.parcel) in
-      rw (e, its, numbered_at parcels p empty_parcel x some kept, replaced_at parcels p g.parcel some, replaced_again t.rings b ring g.ring)
-      (one_released u order last processes p some moves q d known free)
+      let g : Moved = get_of ring (get_or t.parcels (p - 1) x) 0 l in
+      let u : Tables = with_ring (after t t.order t.processes (set t.parcels (p - 1) g.parcel)) b g.ring in
+      rw (e, its, numbered_at t.parcels p empty_parcel x some kept, replaced_at t.parcels p g.parcel some, replaced_again t.rings b ring g.ring)
+      (one_released u t.order last t.processes p some moves q d known free)
   served_as_lem (Putting n l) h e =
-      let r : Ring = put_of ring (get_or parcels (p - 1) x) 0 l in
-      let u : Tables = parts t b r order processes (set parcels (p - 1) empty_parcel) in
-      rw (e, its, numbered_at parcels p empty_parcel x some kept, replaced_at parcels p empty_parcel some, replaced_again t.rings b ring r)
-      (one_released u order last processes p some moves q d known free)
+      let r : Ring = put_of ring (get_or t.parcels (p - 1) x) 0 l in
+      let u : Tables = with_ring (after t t.order t.processes (set t.parcels (p - 1) empty_parcel)) b r in
+      rw (e, its, numbered_at t.parcels p empty_parcel x some kept, replaced_at t.parcels p empty_parcel some, replaced_again t.rings b ring r)
+      (one_released u t.order last t.processes p some moves q d known free)
   served_as_lem (Asleep k) h e = absurd (true≢false (sym h))
 
-  numbered_served : at_ring (get_or processes (p - 1) d).place ≡ true → m ≡ exchanged (get_or processes (p - 1) d).place ring (get_or parcels (p - 1) x)
-      → parts t b m.ring last (set processes (p - 1) q) (set parcels (p - 1) m.parcel) ≡ service b p (parts t b ring order processes parcels)
-  unfolding service process_of
-  numbered_served h e = rw (numbered_at processes p nobody d some known) (served_as_lem (get_or processes (p - 1) d).place h e)
+  numbered_served : at_ring (get_or t.processes (p - 1) d).place ≡ true → m ≡ exchanged (get_or t.processes (p - 1) d).place ring (get_or t.parcels (p - 1) x)
+      → with_ring (after t last (set t.processes (p - 1) q) (set t.parcels (p - 1) m.parcel)) b m.ring ≡ service b p (with_ring t b ring)
+  unfolding service process_of with_ring
+  numbered_served h e = rw (numbered_at t.processes p nobody d some known) (served_as_lem (get_or t.processes (p - 1) d).place h e)
 
 -- The same by the entry k of p
-pub one_served : (t : Tables) (b : ℕ) (ring : Ring) (order last : List ℕ) (processes : List Process) (parcels : List Parcel) (p k : ℕ) (m : Moved) (q d : Process) (x : Parcel)
-    → (p ≡ 0 → ⊥) → p ≤ length processes → p ≤ length parcels → k ≡ p - 1 → Its t b ring → last ≡ moved_last p order
-    → q ≡ placed (get_or processes k d) (released_to (get_or processes k d).suspended)
-    → at_ring (get_or processes k d).place ≡ true → m ≡ exchanged (get_or processes k d).place ring (get_or parcels k x)
-    → parts t b m.ring last (set processes k q) (set parcels k m.parcel) ≡ service b p (parts t b ring order processes parcels)
-one_served t b ring order last processes parcels p k m q d x some known kept here its moves free h e =
-    rw here (numbered_served t b ring order last processes parcels p m q d x some known kept its moves (rw here at free) (rw here at h) (rw here at e))
+pub one_served : (t : Tables) (b : ℕ) (ring : Ring) (last : List ℕ) (p k : ℕ) (m : Moved) (q d : Process) (x : Parcel)
+    → (p ≡ 0 → ⊥) → p ≤ length t.processes → p ≤ length t.parcels → k ≡ p - 1 → IsRingOf b ring t → last ≡ moved_last p t.order
+    → q ≡ placed (get_or t.processes k d) (released_to (get_or t.processes k d).suspended)
+    → at_ring (get_or t.processes k d).place ≡ true → m ≡ exchanged (get_or t.processes k d).place ring (get_or t.parcels k x)
+    → with_ring (after t last (set t.processes k q) (set t.parcels k m.parcel)) b m.ring ≡ service b p (with_ring t b ring)
+one_served t b ring last p k m q d x some known kept here its moves free h e =
+    rw here (numbered_served t b ring last p m q d x some known kept its moves (rw here at free) (rw here at h) (rw here at e))

@@ -1,18 +1,24 @@
 // Rings: put and get, their conditional forms, reset, collect, and the serving of the lines.
 #![tactic(auto)]
 
-ghost use Rattle.std.specs.Prelude.{◌≡◌, Bool, cond, false, ◌+◌, eqb, leb, take};
-ghost use Rattle.std.specs.Iterator.{YieldsFirst, item_count};
+ghost use Rattle.std.specs.Prelude.{◌≡◌, ℕ, Bool, cond, false, ◌+◌, eqb, leb, take};
 ghost use Rattle.arrivals.specs.Order.{first};
 ghost use Rattle.bay.specs.Bay.{parcel_of};
 ghost use Rattle.bay.specs.declared.Ring.{Ring};
+ghost use Rattle.tables.specs.Access.{with_ring};
 ghost use Rattle.tables.specs.Lines.{is_number};
 ghost use Rattle.answers.specs.declared.Outcome.TheVariants.{Done};
 ghost use Rattle.answers.specs.Answers.{answer, step};
 ghost use Rattle.rings.specs.Serving.{
   asked,
   lengths_of,
+  getter_goes,
   to_come,
+  GetterTurn,
+  PutterTurn,
+  IsRingOf,
+  service,
+  services,
   entered,
   at_ring,
   exchanged,
@@ -116,31 +122,35 @@ pub fn putter_goes(p: u8, l: u8, held: u16, size: u16) -> bool
     p != 0 && has_room(l, held, size)
 }
 
-impl<'a> Iterator for Turns<'a> {
-    type Item = u8;
-
-    ghost next_gives = { YieldsFirst to_come };
-
-    ghost remaining = { item_count to_come };
-
-    // If the head getter wants no more than is held, it is served; if not, the head putter goes in when there is room.
-    #[tactic(auto, using(crate::proofs::Laws::getter_turn, crate::proofs::Laws::putter_turn, crate::proofs::Laws::nobody_left))]
-    fn next(&mut self) -> Option<u8> {
-        let getter = head(self.getters);
-        let wants = tables::numbered(self.lengths, getter, 0);
-        if getter_goes(getter, wants, self.held) {
-            self.getters = &self.getters[1..];
-            self.held -= u16::from(wants);
-            return Some(getter);
+impl<'a> Turns<'a> {
+    // The head getter, if it wants no more than is held: it is out of its line then.
+    #[tactic(auto, using(crate::proofs::Laws::getter_test, crate::proofs::Laws::behind), unfolding(crate::specs::Serving::length_for))]
+    fn getter(&mut self) -> Option<u8>
+        ensures { GetterTurn self.old result self.new }
+    {
+        let p = head(self.getters);
+        let wants = tables::numbered(self.lengths, p, 0);
+        if !getter_goes(p, wants, self.held) {
+            return None;
         }
-        let putter = head(self.putters);
-        let brings = tables::numbered(self.lengths, putter, 0);
-        if putter_goes(putter, brings, self.held, self.size) {
-            self.putters = &self.putters[1..];
-            self.held += u16::from(brings);
-            return Some(putter);
+        self.getters = &self.getters[1..];
+        self.held -= u16::from(wants);
+        Some(p)
+    }
+
+    // The head putter, if there is room for what it brings: it is out of its line then.
+    #[tactic(auto, using(crate::proofs::Laws::putter_test, crate::proofs::Laws::behind), unfolding(crate::specs::Serving::length_for))]
+    fn putter(&mut self) -> Option<u8>
+        ensures { PutterTurn self.old result self.new }
+    {
+        let p = head(self.putters);
+        let brings = tables::numbered(self.lengths, p, 0);
+        if !putter_goes(p, brings, self.held, self.size) {
+            return None;
         }
-        None
+        self.putters = &self.putters[1..];
+        self.held += u16::from(brings);
+        Some(p)
     }
 }
 
@@ -176,6 +186,45 @@ fn exchanged(ring: Ring, parcel: Parcel, place: Place) -> Moved
     }
 }
 
+// Process p is served: transferred and released.
+fn serve(t: &mut Tables, ring: &mut Ring, p: u8)
+    ensures { (b : ℕ) → IsRingOf b ring.old t.old → IsRingOf b ring.new t.new × (with_ring t.new b ring.new ≡ service b p (with_ring t.old b ring.old)) }
+{
+    let k = tables::entry_of(p);
+    let process = t.processes[k];
+    if at_ring(p, process.place) {
+        let moved = exchanged(*ring, t.parcels[k], process.place);
+        *ring = moved.ring;
+        t.parcels[k] = moved.parcel;
+        t.processes[k] = ready::released_process(process);
+        t.order = arrivals::moved_last(t.order, p);
+    }
+}
+
+// If the head getter wants no more than is held, it is served, and then again; if not, it is the head putter's turn.
+#[cycle(serving)]
+fn serve_getter(t: &mut Tables, ring: &mut Ring, turns: &mut Turns)
+    ensures { (b : ℕ) → IsRingOf b ring.old t.old → with_ring t.new b ring.new ≡ services b (to_come turns.old) (with_ring t.old b ring.old) }
+{
+    let Some(p) = turns.getter() else {
+        return serve_putter(t, ring, turns);
+    };
+    serve(t, ring, p);
+    serve_getter(t, ring, turns);
+}
+
+// The head putter goes in when there is room, and then it is the head getter's turn again; if not, neither can be served.
+#[cycle(serving)]
+fn serve_putter(t: &mut Tables, ring: &mut Ring, turns: &mut Turns)
+    requires { getter_goes turns.old.lengths.now turns.old.held turns.old.getters.now ≡ false }
+    ensures { (b : ℕ) → IsRingOf b ring.old t.old → with_ring t.new b ring.new ≡ services b (to_come turns.old) (with_ring t.old b ring.old) }
+{
+    if let Some(p) = turns.putter() {
+        serve(t, ring, p);
+        serve_getter(t, ring, turns);
+    }
+}
+
 // The lines of ring n, which lies in bay b, are served: one after the other is transferred and released. The answer is the
 // caller's: tables that went to it alone would be copied once more. Apart from `served`, whose calls mostly find nobody in
 // the lines and then take neither this function's time nor its stack.
@@ -184,24 +233,14 @@ fn served_in_turn(mut t: Tables, n: u8, b: u8, answer: Answer) -> Step
     ensures { result ≡ step (served n b t) answer }
 {
     let mut ring = tables::ring_in(t, b);
-    let turns = Turns {
+    let mut turns = Turns {
         size: ring.size,
         held: ring.held,
         lengths: &lengths_of(t),
         getters: &tables::line_of(t, Line::Getters(n)),
         putters: &tables::line_of(t, Line::Putters(n)),
     };
-    for p in turns {
-        let k = tables::entry_of(p);
-        let process = t.processes[k];
-        if at_ring(p, process.place) {
-            let moved = exchanged(ring, t.parcels[k], process.place);
-            ring = moved.ring;
-            t.parcels[k] = moved.parcel;
-            t.processes[k] = ready::released_process(process);
-            t.order = arrivals::moved_last(t.order, p);
-        }
-    }
+    serve_getter(&mut t, &mut ring, &mut turns);
     Step {
         tables: tables::with_ring(t, b, ring),
         answer,
