@@ -1,7 +1,7 @@
 // Rings: put and get, their conditional forms, reset, collect, and the serving of the lines.
 #![tactic(auto)]
 
-ghost use Rattle.std.specs.Prelude.{◌≡◌, ℕ, Bool, cond, false, ◌+◌, eqb, leb, take};
+ghost use Rattle.std.specs.Prelude.{◌≡◌, ℕ, [], Bool, cond, false, ◌+◌, eqb, leb, take};
 ghost use Rattle.arrivals.specs.Order.{first};
 ghost use Rattle.bay.specs.Bay.{parcel_of};
 ghost use Rattle.bay.specs.declared.Ring.{Ring};
@@ -186,7 +186,7 @@ fn exchanged(ring: Ring, parcel: Parcel, place: Place) -> Moved
     }
 }
 
-// Process p is served: transferred and released.
+// Process p is served: transferred and released. One who stands in no line of a ring is left as it is.
 fn serve(t: &mut Tables, ring: &mut Ring, p: u8)
     ensures { (b : ℕ) → IsRingOf b ring.old t.old → IsRingOf b ring.new t.new × (with_ring t.new b ring.new ≡ service b p (with_ring t.old b ring.old)) }
 {
@@ -204,7 +204,8 @@ fn serve(t: &mut Tables, ring: &mut Ring, p: u8)
 // If the head getter wants no more than is held, it is served, and then again; if not, it is the head putter's turn.
 #[cycle(serving)]
 fn serve_getter(t: &mut Tables, ring: &mut Ring, turns: &mut Turns)
-    ensures { (b : ℕ) → IsRingOf b ring.old t.old → with_ring t.new b ring.new ≡ services b (to_come turns.old) (with_ring t.old b ring.old) }
+    ensures all_served { (b : ℕ) → IsRingOf b ring.old t.old → with_ring t.new b ring.new ≡ services b (to_come turns.old) (with_ring t.old b ring.old) }
+    ensures none_left { to_come turns.new ≡ [] }
 {
     let Some(p) = turns.getter() else {
         return serve_putter(t, ring, turns);
@@ -217,7 +218,8 @@ fn serve_getter(t: &mut Tables, ring: &mut Ring, turns: &mut Turns)
 #[cycle(serving)]
 fn serve_putter(t: &mut Tables, ring: &mut Ring, turns: &mut Turns)
     requires { getter_goes turns.old.lengths.now turns.old.held turns.old.getters.now ≡ false }
-    ensures { (b : ℕ) → IsRingOf b ring.old t.old → with_ring t.new b ring.new ≡ services b (to_come turns.old) (with_ring t.old b ring.old) }
+    ensures all_served { (b : ℕ) → IsRingOf b ring.old t.old → with_ring t.new b ring.new ≡ services b (to_come turns.old) (with_ring t.old b ring.old) }
+    ensures none_left { to_come turns.new ≡ [] }
 {
     if let Some(p) = turns.putter() {
         serve(t, ring, p);

@@ -13,4 +13,4 @@ returns c =
     let b = c.args.b in
     let taken = c.ring_in-ring.ensures in
     let all = turns_read c.args.n b t _ _ _ _ taken c.lengths_of.ensures c.line_of.ensures c.line_of-2.ensures in
-    ap (λ u. step u c.args.answer) (c.with_ring.ensures ∙ c.serve_getter.ensures b (its_first t b _ taken) ∙ rw (put_back t b _ taken, all))
+    ap (λ u. step u c.args.answer) (c.with_ring.ensures ∙ c.serve_getter.ensures.all_served b (its_first t b _ taken) ∙ rw (put_back t b _ taken, all))
