@@ -141,7 +141,7 @@ fn joins_anew(t: Tables, p: u8, process: Process, place: Place) -> Tables
 pub fn suspended(t: Tables, p: u8) -> Step
     ensures { result ≡ suspended p t }
 {
-    let process = tables::process_at(t, p);
+    let process = tables::process_at(&t, p);
     if process.suspended {
         return answers::plainly(t, Outcome::No);
     }
@@ -168,7 +168,7 @@ pub fn suspended(t: Tables, p: u8) -> Step
 pub fn resumed(t: Tables, p: u8) -> Step
     ensures { result ≡ resumed p t }
 {
-    let process = tables::process_at(t, p);
+    let process = tables::process_at(&t, p);
     if !process.suspended {
         return answers::plainly(t, Outcome::No);
     }
@@ -191,7 +191,7 @@ pub fn resumed(t: Tables, p: u8) -> Step
 pub fn prioritised(t: Tables, p: u8, priority: u8) -> Step
     ensures { result ≡ prioritised p priority t }
 {
-    let process = tables::process_at(t, p);
+    let process = tables::process_at(&t, p);
     if is_free(process) {
         return answers::plainly(t, Outcome::No);
     }
@@ -240,7 +240,7 @@ pub fn scheduled(t: Tables) -> Step
     if t.running == 0 {
         return answers::plainly(t, Outcome::No);
     }
-    let caller = tables::process_at(t, t.running);
+    let caller = tables::process_at(&t, t.running);
     if !ready_has(t, caller.priority) {
         return answers::plainly(t, Outcome::Done);
     }
@@ -253,7 +253,7 @@ pub fn scheduled(t: Tables) -> Step
 pub fn stated(t: Tables, p: u8) -> Step
     ensures { result ≡ stated p t }
 {
-    let process = tables::process_at(t, p);
+    let process = tables::process_at(&t, p);
     if is_free(process) {
         return answers::plainly(t, Outcome::No);
     }

@@ -31,7 +31,7 @@ pub fn placed(process: Process, place: Place) -> Process
 fn put(t: &mut Tables, p: u8, place: Place)
     ensures { t.new ≡ with_place t.old p place }
 {
-    let process = tables::numbered(&t.processes, p, tables::nobody());
+    let process = tables::process_at(t, p);
     tables::replace(&mut t.processes, p, placed(process, place));
 }
 
@@ -97,7 +97,7 @@ pub fn released_process(process: Process) -> Process
 fn release(t: &mut Tables, p: u8)
     ensures { t.new ≡ released p t.old }
 {
-    let process = tables::numbered(&t.processes, p, tables::nobody());
+    let process = tables::process_at(t, p);
     join(t, p, released_to(process.suspended));
 }
 
@@ -128,16 +128,17 @@ pub fn runs(mut t: Tables, p: u8) -> Tables
 }
 
 // The head of the ready line, if it goes before the runner: nobody runs, or the head is strictly more urgent.
-#[tactic(auto, unfolding(crate::specs::Ready::goes))]
-fn newcomer(t: Tables) -> Option<u8>
-    ensures { result ≡ ahead_of_runner (first (ready_line t)) t }
+#[tactic(auto, unfolding(crate::specs::Ready::goes, tables::specs::Access::process_of))]
+fn newcomer(t: &Tables) -> Option<u8>
+    ensures { result ≡ ahead_of_runner (first (ready_line t.now)) t.now }
 {
     let head = tables::ready_head(t)?;
     if t.running == 0 {
         return Some(head);
     }
-    let runner = tables::process_at(t, t.running);
-    let newcomer = tables::process_at(t, head);
+    let processes = &t.processes;
+    let runner = tables::numbered(processes, t.running, tables::nobody());
+    let newcomer = tables::numbered(processes, head, tables::nobody());
     if newcomer.priority <= runner.priority {
         return None;
     }
@@ -149,7 +150,7 @@ fn newcomer(t: Tables) -> Option<u8>
 pub fn dispatched(mut t: Tables) -> Tables
     ensures { result ≡ dispatched t }
 {
-    if let Some(head) = newcomer(t) {
+    if let Some(head) = newcomer(&t) {
         let runner = t.running;
         join(&mut t, runner, Place::Ready);
         run(&mut t, head);

@@ -182,34 +182,18 @@ fn dead_process(row: Row, process: Process) -> bool
     row.n == Number::Process && process.place == Place::Nowhere
 }
 
-// The process that N names, or nobody.
-#[tactic(auto, unfolding(tables::specs::Access::process_of))]
-fn process_named(t: &Tables, n: u8) -> Process
-    ensures { result ≡ process_of t.now n }
-{
-    tables::numbered(&t.processes, n, tables::nobody())
-}
-
-// What the structure is that N names, or nothing.
-#[tactic(auto, unfolding(tables::specs::Access::structure_of))]
-fn kind_named(t: &Tables, n: u8) -> Kind
-    ensures { result ≡ (structure_of t.now n).kind }
-{
-    tables::numbered(&t.structures, n, tables::nothing()).kind
-}
-
 // The refusals that the request's row in the call table decides.
 #[tactic(auto, using(crate::specs::Laws::dead_named, crate::specs::Laws::wrong_named), unfolding(crate::specs::Refusals::applies_to))]
 fn early(t: &Tables, r: &Record, row: Row) -> Result<(), Refusal>
     ensures { refused_as result ≡ first_that (applies_to row r.now.what t.now r.now) early }
 {
-    let kind = kind_named(t, r.n);
+    let kind = tables::structure_at(t, r.n).kind;
     refuse_if(wrong_caller(row, r.who, t.running), Refusal::WrongCaller)?;
     refuse_if(bad_field(row, r), Refusal::BadField)?;
     refuse_if(dead_structure(row.n, kind), Refusal::DeadStructure)?;
     refuse_if(wrong_kind(row.n, kind), Refusal::WrongKind)?;
     refuse_if(
-        dead_process(row, process_named(t, r.n)),
+        dead_process(row, tables::process_at(t, r.n)),
         Refusal::DeadProcess,
     )
 }
@@ -219,7 +203,7 @@ fn above_size(t: &Tables, l: u8, kind: Kind) -> bool
     ensures { result ≡ above_size l kind t.now }
 {
     match kind {
-        Kind::Ring(b) => tables::ring_in(*t, b).size < l.into(),
+        Kind::Ring(b) => tables::ring_in(t, b).size < l.into(),
         Kind::Free | Kind::Binary(_) | Kind::Counting(_) => false,
     }
 }
@@ -235,7 +219,7 @@ fn is_full(kind: Kind) -> bool
 fn uncollected(t: &Tables, who: u8) -> bool
     ensures { result ≡ both (eqb who 1) (holds_bytes (parcel_for t.now t.now.running).holds) }
 {
-    who == 1 && tables::parcel_for(*t, t.running).holds.is_some()
+    who == 1 && tables::parcel_for(t, t.running).holds.is_some()
 }
 
 // Put and get, conditional or not.
@@ -244,7 +228,10 @@ fn refused_transfer(t: &Tables, r: &Record) -> Result<(), Refusal>
     ensures { refused_as result ≡ refused_transfer t.now r.now }
 {
     refuse_if(uncollected(t, r.who), Refusal::Uncollected)?;
-    refuse_if(above_size(t, r.l, kind_named(t, r.n)), Refusal::TooLong)
+    refuse_if(
+        above_size(t, r.l, tables::structure_at(t, r.n).kind),
+        Refusal::TooLong,
+    )
 }
 
 // Create structure.
@@ -269,11 +256,20 @@ fn late(t: &Tables, r: &Record, deed: Deed) -> Result<(), Refusal>
                 Refusal::ProcessesFull,
             )
         }
-        Deed::Suspend => refuse_if(process_named(t, r.n).suspended, Refusal::WrongSuspension),
-        Deed::Resume => refuse_if(!process_named(t, r.n).suspended, Refusal::WrongSuspension),
+        Deed::Suspend => refuse_if(
+            tables::process_at(t, r.n).suspended,
+            Refusal::WrongSuspension,
+        ),
+        Deed::Resume => refuse_if(
+            !tables::process_at(t, r.n).suspended,
+            Refusal::WrongSuspension,
+        ),
         Deed::CreateStructure => refused_creation(t, r),
-        Deed::DeleteStructure => refuse_if(tables::in_lines_of(*t, r.n) > 0, Refusal::DeletesInUse),
-        Deed::Signal => refuse_if(is_full(kind_named(t, r.n)), Refusal::SignalsFull),
+        Deed::DeleteStructure => refuse_if(tables::in_lines_of(t, r.n) > 0, Refusal::DeletesInUse),
+        Deed::Signal => refuse_if(
+            is_full(tables::structure_at(t, r.n).kind),
+            Refusal::SignalsFull,
+        ),
         Deed::Put | Deed::ConditionalPut | Deed::Get | Deed::ConditionalGet => {
             refused_transfer(t, r)
         }

@@ -159,7 +159,7 @@ impl<'a> Turns<'a> {
 fn entered(t: Tables, b: u8, parcel: Parcel, l: u8) -> Tables
     ensures { result ≡ entered b parcel l t }
 {
-    tables::with_ring(t, b, bay::put(tables::ring_in(t, b), parcel, 0, l))
+    tables::with_ring(t, b, bay::put(tables::ring_in(&t, b), parcel, 0, l))
 }
 
 // Does p, whose entry has this place, stand in a line of a ring?
@@ -234,13 +234,13 @@ fn serve_putter(t: &mut Tables, ring: &mut Ring, turns: &mut Turns)
 fn served_in_turn(mut t: Tables, n: u8, b: u8, answer: Answer) -> Step
     ensures { result ≡ step (served n b t) answer }
 {
-    let mut ring = tables::ring_in(t, b);
+    let mut ring = tables::ring_in(&t, b);
     let mut turns = Turns {
         size: ring.size,
         held: ring.held,
         lengths: &lengths_of(t),
-        getters: &tables::line_of(t, Line::Getters(n)),
-        putters: &tables::line_of(t, Line::Putters(n)),
+        getters: &tables::line_of(&t, Line::Getters(n)),
+        putters: &tables::line_of(&t, Line::Putters(n)),
     };
     serve_getter(&mut t, &mut ring, &mut turns);
     Step {
@@ -254,7 +254,7 @@ fn served_in_turn(mut t: Tables, n: u8, b: u8, answer: Answer) -> Step
 fn served(t: Tables, n: u8, b: u8, answer: Answer) -> Step
     ensures { result ≡ step (served n b t) answer }
 {
-    if tables::in_lines_of(t, n) == 0 {
+    if tables::in_lines_of(&t, n) == 0 {
         return Step { tables: t, answer };
     }
     served_in_turn(t, n, b, answer)
@@ -283,9 +283,9 @@ fn allowed(l: u8, size: u16) -> bool
 
 // The way of l bytes at structure n: past those in this line, where the ring has what suffices.
 #[tactic(auto, unfolding(crate::specs::Rings::way_past, crate::specs::Rings::way_to_kind, crate::specs::Rings::way_of, crate::specs::Rings::at_once))]
-fn way_past<F: Fn(Ring) -> bool>(t: Tables, n: u8, l: u8, line: Line, suffices: F) -> Way
+fn way_past<F: Fn(Ring) -> bool>(t: &Tables, n: u8, l: u8, line: Line, suffices: F) -> Way
     requires { F.IsAlwaysCallable suffices }
-    ensures { (enough : Ring → Bool) → ((ring : Ring) (x : Bool) → F.post suffices ring x → x ≡ enough ring) → result ≡ way_past line enough n l t }
+    ensures { (enough : Ring → Bool) → ((ring : Ring) (x : Bool) → F.post suffices ring x → x ≡ enough ring) → result ≡ way_past line enough n l t.now }
 {
     let Kind::Ring(b) = tables::structure_at(t, n).kind else {
         return Way::Closed;
@@ -301,8 +301,8 @@ fn way_past<F: Fn(Ring) -> bool>(t: Tables, n: u8, l: u8, line: Line, suffices: 
 }
 
 // The way of l bytes into structure n: past the putters, where there is room.
-fn way_in(t: Tables, n: u8, l: u8) -> Way
-    ensures { result ≡ way_in n l t }
+fn way_in(t: &Tables, n: u8, l: u8) -> Way
+    ensures { result ≡ way_in n l t.now }
 {
     way_past(
         t,
@@ -314,8 +314,8 @@ fn way_in(t: Tables, n: u8, l: u8) -> Way
 }
 
 // The way of l bytes out of structure n: past the getters, where so many are held.
-fn way_out(t: Tables, n: u8, l: u8) -> Way
-    ensures { result ≡ way_out n l t }
+fn way_out(t: &Tables, n: u8, l: u8) -> Way
+    ensures { result ≡ way_out n l t.now }
 {
     way_past(t, n, l, Line::Getters(n), |ring| u16::from(l) <= ring.held)
 }
@@ -350,7 +350,7 @@ pub fn put_in(t: Tables, n: u8, l: u8, bytes: [u8; 64], form: Form) -> Step
     if matches!(form, Form::Waiting) && t.running == 0 {
         return answers::plainly(t, Outcome::No);
     }
-    match (way_in(t, n, l), form) {
+    match (way_in(&t, n, l), form) {
         (Way::AtOnce(b), _) => put_through(t, n, b, l, bytes),
         (Way::Blocked, Form::Waiting) => put_waits(t, n, l, bytes),
         (Way::Blocked, Form::Conditional) | (Way::Closed, _) => answers::plainly(t, Outcome::No),
@@ -373,7 +373,7 @@ fn bringing(l: u8, bytes: [u8; 64]) -> Answer
 fn got_through(t: Tables, n: u8, b: u8, l: u8) -> Step
     ensures { result ≡ got_through n b l t }
 {
-    let moved = bay::get(tables::ring_in(t, b), bay::empty_parcel(), 0, l);
+    let moved = bay::get(tables::ring_in(&t, b), bay::empty_parcel(), 0, l);
     let next = tables::with_ring(t, b, moved.ring);
     served(next, n, b, bringing(l, moved.parcel.bytes))
 }
@@ -394,7 +394,7 @@ pub fn got(t: Tables, n: u8, l: u8, form: Form) -> Step
     if t.running == 0 {
         return answers::plainly(t, Outcome::No);
     }
-    match (way_out(t, n, l), form) {
+    match (way_out(&t, n, l), form) {
         (Way::AtOnce(b), _) => got_through(t, n, b, l),
         (Way::Blocked, Form::Waiting) => get_waits(t, n, l),
         (Way::Blocked, Form::Conditional) | (Way::Closed, _) => answers::plainly(t, Outcome::No),
@@ -406,7 +406,7 @@ pub fn got(t: Tables, n: u8, l: u8, form: Form) -> Step
 fn reset_in(t: Tables, n: u8, b: u8) -> Step
     ensures { result ≡ reset_in n b t }
 {
-    let thrown = tables::with_ring(t, b, bay::reset(tables::ring_in(t, b)));
+    let thrown = tables::with_ring(t, b, bay::reset(tables::ring_in(&t, b)));
     served(thrown, n, b, answers::with_numbers(Outcome::Done, 0, 0, 0))
 }
 
@@ -415,7 +415,7 @@ fn reset_in(t: Tables, n: u8, b: u8) -> Step
 pub fn reset_ring(t: Tables, n: u8) -> Step
     ensures { result ≡ reset_ring n t }
 {
-    match tables::structure_at(t, n).kind {
+    match tables::structure_at(&t, n).kind {
         Kind::Ring(b) => reset_in(t, n, b),
         _ => answers::plainly(t, Outcome::No),
     }
@@ -437,7 +437,7 @@ fn collected_bytes(t: Tables, l: u8, bytes: [u8; 64]) -> Step
 pub fn collected(t: Tables) -> Step
     ensures { result ≡ collected t }
 {
-    let parcel = tables::parcel_for(t, t.running);
+    let parcel = tables::parcel_for(&t, t.running);
     match parcel.holds {
         Some(l) => collected_bytes(t, l, parcel.bytes),
         None => answers::plainly(t, Outcome::No),

@@ -27,15 +27,15 @@ use tables::{Kind, Line, Place, Structure, Tables};
 
 // What structure n is.
 #[tactic(auto, unfolding(crate::specs::Semaphores::kind_of))]
-fn kind_of(t: Tables, n: u8) -> Kind
-    ensures { result ≡ kind_of n t }
+fn kind_of(t: &Tables, n: u8) -> Kind
+    ensures { result ≡ kind_of n t.now }
 {
     tables::structure_at(t, n).kind
 }
 
 // What structure n is, if it is a semaphore.
-fn semaphore_at(t: Tables, n: u8) -> Option<Kind>
-    ensures { result ≡ semaphore_of (kind_of n t) }
+fn semaphore_at(t: &Tables, n: u8) -> Option<Kind>
+    ensures { result ≡ semaphore_of (kind_of n t.now) }
 {
     let kind = kind_of(t, n);
     tables::is_semaphore(kind).then_some(kind)
@@ -108,7 +108,7 @@ pub fn waited(t: Tables, n: u8) -> Step
     if t.running == 0 {
         return answers::plainly(t, Outcome::No);
     }
-    match semaphore_at(t, n) {
+    match semaphore_at(&t, n) {
         Some(kind) => waited_at(t, n, kind),
         None => answers::plainly(t, Outcome::No),
     }
@@ -119,7 +119,7 @@ pub fn waited(t: Tables, n: u8) -> Step
 pub fn conditionally_waited(t: Tables, n: u8) -> Step
     ensures { result ≡ conditionally_waited n t }
 {
-    let kind = kind_of(t, n);
+    let kind = kind_of(&t, n);
     if t.running == 0 || value_of(kind) == 0 {
         return answers::plainly(t, Outcome::No);
     }
@@ -131,7 +131,7 @@ pub fn conditionally_waited(t: Tables, n: u8) -> Step
 fn signalled_at(t: Tables, n: u8, kind: Kind) -> Tables
     ensures { result ≡ signalled_at n t kind }
 {
-    match tables::head_of(t, Line::Semaphore(n)) {
+    match tables::head_of(&t, Line::Semaphore(n)) {
         Some(p) => ready::released(t, p),
         None => with_kind(t, n, raised(kind)),
     }
@@ -142,7 +142,7 @@ fn signalled_at(t: Tables, n: u8, kind: Kind) -> Tables
 pub fn signalled(t: Tables, n: u8) -> Step
     ensures { result ≡ signalled n t }
 {
-    match semaphore_at(t, n) {
+    match semaphore_at(&t, n) {
         Some(kind) => answers::plainly(signalled_at(t, n, kind), Outcome::Done),
         None => answers::plainly(t, Outcome::No),
     }
@@ -153,10 +153,10 @@ pub fn signalled(t: Tables, n: u8) -> Step
 pub fn conditionally_signalled(t: Tables, n: u8) -> Step
     ensures { result ≡ conditionally_signalled n t }
 {
-    let Some(p) = tables::head_of(t, Line::Semaphore(n)) else {
+    let Some(p) = tables::head_of(&t, Line::Semaphore(n)) else {
         return answers::plainly(t, Outcome::No);
     };
-    if !tables::is_semaphore(kind_of(t, n)) {
+    if !tables::is_semaphore(kind_of(&t, n)) {
         return answers::plainly(t, Outcome::No);
     }
     answers::plainly(ready::released(t, p), Outcome::Done)
@@ -178,8 +178,8 @@ fn all_released(t: Tables, members: [u8; 32]) -> Step
 pub fn all_signalled(t: Tables, n: u8) -> Step
     ensures { result ≡ all_signalled n t }
 {
-    if !tables::is_semaphore(kind_of(t, n)) {
+    if !tables::is_semaphore(kind_of(&t, n)) {
         return answers::plainly(t, Outcome::No);
     }
-    all_released(t, tables::line_of(t, Line::Semaphore(n)))
+    all_released(t, tables::line_of(&t, Line::Semaphore(n)))
 }

@@ -126,7 +126,7 @@ pub fn deleted(t: Tables, n: u8) -> Step
     ensures { result ≡ deleted n t }
 {
     let next = tables::with_structure(t, n, tables::nothing());
-    match tables::structure_at(t, n).kind {
+    match tables::structure_at(&t, n).kind {
         Kind::Free => answers::plainly(t, Outcome::No),
         Kind::Binary(_) | Kind::Counting(_) => answers::plainly(next, Outcome::Done),
         Kind::Ring(b) => {
@@ -140,7 +140,7 @@ pub fn deleted(t: Tables, n: u8) -> Step
 fn valued_as(t: Tables, n: u8, kind: Kind, m: u32) -> Step
     ensures { result ≡ valued_as n t kind m }
 {
-    let count = tables::in_lines_of(t, n);
+    let count = tables::in_lines_of(&t, n);
     Step {
         tables: t,
         answer: answers::with_numbers(Outcome::Done, count, tables::kind_number(kind), m),
@@ -152,11 +152,11 @@ fn valued_as(t: Tables, n: u8, kind: Kind, m: u32) -> Step
 pub fn valued(t: Tables, n: u8) -> Step
     ensures { result ≡ valued n t }
 {
-    let kind = tables::structure_at(t, n).kind;
+    let kind = tables::structure_at(&t, n).kind;
     match kind {
         Kind::Free => answers::plainly(t, Outcome::No),
         Kind::Binary(v) => valued_as(t, n, kind, u32::from(v)),
         Kind::Counting(v) => valued_as(t, n, kind, u32::from(v)),
-        Kind::Ring(b) => valued_as(t, n, kind, u32::from(tables::ring_in(t, b).held)),
+        Kind::Ring(b) => valued_as(t, n, kind, u32::from(tables::ring_in(&t, b).held)),
     }
 }

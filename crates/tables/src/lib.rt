@@ -163,29 +163,29 @@ pub fn replace<T: Copy>(table: &mut [T], n: u8, x: T)
 }
 
 // The process with number p, or nobody.
-pub fn process_at(t: Tables, p: u8) -> Process
-    ensures { result ≡ process_of t p }
+pub fn process_at(t: &Tables, p: u8) -> Process
+    ensures { result ≡ process_of t.now p }
 {
     numbered(&t.processes, p, nobody())
 }
 
 // The structure with number n, or nothing.
-pub fn structure_at(t: Tables, n: u8) -> Structure
-    ensures { result ≡ structure_of t n }
+pub fn structure_at(t: &Tables, n: u8) -> Structure
+    ensures { result ≡ structure_of t.now n }
 {
     numbered(&t.structures, n, nothing())
 }
 
 // The ring in bay b, or an empty bay.
-pub fn ring_in(t: Tables, b: u8) -> Ring
-    ensures { result ≡ ring_in t b }
+pub fn ring_in(t: &Tables, b: u8) -> Ring
+    ensures { result ≡ ring_in t.now b }
 {
     numbered(&t.rings, b, bay::empty_bay())
 }
 
 // The parcel of process p, or an empty one.
-pub fn parcel_for(t: Tables, p: u8) -> Parcel
-    ensures { result ≡ parcel_for t p }
+pub fn parcel_for(t: &Tables, p: u8) -> Parcel
+    ensures { result ≡ parcel_for t.now p }
 {
     numbered(&t.parcels, p, bay::empty_parcel())
 }
@@ -343,15 +343,15 @@ fn first_in(order: &[u8; 32], processes: &[Process; 32], which: Line) -> Option<
 }
 
 // The head of a line, if it has one.
-pub fn head_of(t: Tables, which: Line) -> Option<u8>
-    ensures { result ≡ somebody (first (line which t)) }
+pub fn head_of(t: &Tables, which: Line) -> Option<u8>
+    ensures { result ≡ somebody (first (line which t.now)) }
 {
     first_in(&t.order, &t.processes, which)
 }
 
 // A line in its order, zeros behind it.
-pub fn line_of(t: Tables, which: Line) -> [u8; 32]
-    ensures { result ≡ padded (line which t) }
+pub fn line_of(t: &Tables, which: Line) -> [u8; 32]
+    ensures { result ≡ padded (line which t.now) }
 {
     let mut members = [0; 32];
     let mut k = 0;
@@ -389,8 +389,8 @@ fn how_many(order: &[u8; 32], processes: &[Process; 32], n: u8) -> usize
 }
 
 // How many stand in the lines of structure n.
-pub fn in_lines_of(t: Tables, n: u8) -> u8
-    ensures { result ≡ in_lines_of n t }
+pub fn in_lines_of(t: &Tables, n: u8) -> u8
+    ensures { result ≡ in_lines_of n t.now }
 {
     how_many(&t.order, &t.processes, n) as u8
 }
@@ -406,8 +406,8 @@ fn urgency_of(processes: &[Process; 32], x: u8) -> u16
 }
 
 // The head of the ready line, if it has one: of the most urgent the one that came first.
-pub fn ready_head(t: Tables) -> Option<u8>
-    ensures { result ≡ somebody (first (ready_line t)) }
+pub fn ready_head(t: &Tables) -> Option<u8>
+    ensures { result ≡ somebody (first (ready_line t.now)) }
 {
     let mut head = None;
     let mut urgency = 0;

@@ -6,4 +6,4 @@ use Rattle.tables.proofs.head_of.Goals as goal
 
 pub returns : goal.returns
 unfolding line
-returns c = c.first_in.ensures ∙ sym (head_found c.args.which c.args.t.processes c.args.t.order)
+returns c = c.first_in.ensures ∙ sym (head_found c.args.which c.args.t.now.processes c.args.t.now.order)

@@ -8,10 +8,10 @@ use Rattle.tables.proofs.in_lines_of.Goals as goal
 pub overflow_cast-result : goal.overflow_cast-result
 overflow_cast-result c =
     let a = c.args in
-    let test = waiting_at a.n a.t.processes in
-    let long : length a.t.order ≡ 32 = search rules in
-    omega (arith, length-filter test a.t.order, count_by-le-length test a.t.order)
+    let test = waiting_at a.n a.t.now.processes in
+    let long : length a.t.now.order ≡ 32 = search rules in
+    omega (arith, length-filter test a.t.now.order, count_by-le-length test a.t.now.order)
 
 pub returns : goal.returns
 unfolding in_lines_of
-returns c = c.how_many.ensures ∙ ap length (kept (waiting_at c.args.n c.args.t.processes) c.args.t.order)
+returns c = c.how_many.ensures ∙ ap length (kept (waiting_at c.args.n c.args.t.now.processes) c.args.t.now.order)

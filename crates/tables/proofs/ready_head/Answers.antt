@@ -10,17 +10,17 @@ use Rattle.tables.proofs.ready_head.Goals.{then-stands+then-urgency-its, then-st
 
 pub loop-x-init : goal.loop-x-init
 loop-x-init c =
-    let ps = c.args.t.processes in
+    let ps = c.args.t.now.processes in
     record {
       known = refl;
       urgent = sym (urgency_nobody ps);
-      rest = sym (head_better (tables.urgency ps) (urgency_nobody ps) (urgency_some ps) [] (keep (standing lines.Ready ps) c.args.t.order));
+      rest = sym (head_better (tables.urgency ps) (urgency_nobody ps) (urgency_some ps) [] (keep (standing lines.Ready ps) c.args.t.now.order));
     }
 
 pub loop-x-preserved : goal.loop-x-preserved
 loop-x-preserved c =
-    let ps = c.args.t.processes in
-    let order = c.args.t.order in
+    let ps = c.args.t.now.processes in
+    let order = c.args.t.now.order in
     let known = c.loop-x.invariant in
     let long : length ps ≡ 32 = search rules in
     let x = get_or order c.loop-x.x-index 0 in
@@ -46,4 +46,4 @@ pub returns : goal.returns
 unfolding ready_line line
 returns c =
     let known = c.loop-x.invariant in
-    known.known ∙ ap somebody (rw (keep_end _ c.args.t.order c.loop-x.x-index (omega arith)) at known.rest)
+    known.known ∙ ap somebody (rw (keep_end _ c.args.t.now.order c.loop-x.x-index (omega arith)) at known.rest)
