@@ -5,7 +5,8 @@ ghost use Rattle.std.specs.Prelude.{◌≡◌, []};
 ghost use Rattle.bay.specs.Round.{going_round};
 ghost use Rattle.bay.specs.Bay.{empty_bay, in_range, put_fits, get_fits, put_of, get_of, reset_of, empty_parcel, ring_of};
 
-// A process's parcel: the bytes that wait to enter a ring, or to be collected, if it holds any. The rest is zero.
+// A process's parcel: the bytes that wait to enter a ring, or to be collected, if it holds any. The rest is zero, and no
+// vector takes its place: the memory is fixed, and `parcel_of` speaks of all 64 bytes.
 #[derive(Clone, Copy)]
 pub struct Parcel {
     pub bytes: [u8; 64],
@@ -61,7 +62,8 @@ pub fn ring_of_size(size: u16) -> Ring
     }
 }
 
-// Whether these are the numbers of a ring: a size of at most 256, a start below it, no more held than it.
+// Whether these are the numbers of a ring: a size of at most 256, a start below it, no more held than it. It takes three
+// numbers and no ring, since its contract holds of any.
 pub fn in_range(start: u16, size: u16, held: u16) -> bool
     ensures { result ≡ in_range start size held }
 {
@@ -77,7 +79,8 @@ fn put_fits(ring: &Ring, from: u8, n: u8) -> bool
         && in_range(ring.start, ring.size, ring.held)
 }
 
-// Whether n bytes are held, and find room in a parcel from its byte `at` on.
+// Whether n bytes are held, and find room in a parcel from its byte `at` on. Beside `put_fits` it asks for bytes where that
+// asks for room: one function with a test as a parameter would be longer.
 fn get_fits(ring: &Ring, at: u8, n: u8) -> bool
     ensures { result ≡ get_fits ring.now.start ring.now.size ring.now.held at n }
 {

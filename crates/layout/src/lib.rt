@@ -65,7 +65,8 @@ fn amount_of(place: Place) -> u32
     }
 }
 
-// The place with this number, structure and amount.
+// The place with this number, structure and amount. The numbers are those of the state's layout, and any other reads as
+// nowhere (`place_of`), so this is no `TryFrom`. So with a kind.
 #[tactic(auto, using(std::proofs::lemmas::Bool::Decides::nat_tests), unfolding(crate::specs::Layout::place_of))]
 fn place_of(code: u8, n: u8, k: u32) -> Place
     ensures { result ≡ place_of code n k }
@@ -393,7 +394,8 @@ fn holding_kept(bytes: &[u8; 2]) -> bool
     (flag == 1) | ((flag == 0) & (length == 0))
 }
 
-// Does it of the bytes of each process, of each structure, of what each parcel holds?
+// Does it of the bytes of each process, of each structure, of what each parcel holds? Three functions and not one with the test
+// as a parameter: its bound would name the width, which Rattle refuses.
 fn processes_kept(s: &[u8; LENGTH]) -> bool
     ensures { result ≡ list_all process_kept (entries 32 (λ i. part s.now (processes_at + i * 8) 8)) }
 {

@@ -9,6 +9,9 @@ use records::Record;
 use std::fmt;
 use std::marker::Model;
 
+// How many bytes a line has at most: six numbers of 3, 3, 3, 3, 3 and 10 digits, and a byte behind each.
+pub const ROOM: usize = 40;
+
 // A line of text: that of a request with this call and this reply.
 #[derive(Drop)]
 pub struct Line {

@@ -9,8 +9,10 @@ use std::io::{BufWriter, Read, Write};
 // The bytes of a record.
 const RECORD: usize = records::LENGTH;
 
-// A round reads at most so many bytes, 910 records, and then writes their lines.
+// A round reads at most so many bytes, 910 records, and then writes as many lines.
 const ROUND: usize = 910 * RECORD;
+
+const LINES: usize = 910 * listing::ROOM;
 
 // Plays the whole records of the input; a line for each.
 fn play(state: &mut [u8], input: &[u8], lines: &mut impl Write) -> io::Result<()> {
@@ -36,7 +38,7 @@ fn main(rt: HostRuntime) -> io::Result<()> {
     let mut state = [0u8; layout::LENGTH];
     kernel::brombeertor_fresh(&mut state);
     let mut input = Vec::with_capacity(rt.alloc(), ROUND)?;
-    let mut lines = BufWriter::new(rt.alloc(), rt.stdout())?;
+    let mut lines = BufWriter::with_capacity(rt.alloc(), LINES, rt.stdout())?;
     for _ in 0..u64::MAX {
         input.clear();
         let got = rt.stdin().take(ROUND as u64).read_to_end(&mut input)?;

@@ -318,7 +318,7 @@ fn is_due(place: Place) -> bool
     matches!(place, Place::Asleep(0))
 }
 
-// x if it is due, else nobody.
+// x if it is due, else nobody: 0, as `ready::released_all` takes its 32 numbers.
 fn if_due(processes: &[Process; 32], x: u8) -> u8
     ensures { result ≡ or_nobody (due_of processes.now) x }
 {

@@ -55,7 +55,8 @@ fn run(t: &mut Tables, p: u8)
     t.running = p;
 }
 
-// The tables after process p joined a line.
+// The tables after process p joined a line. The steps take and give the tables by value, so this and those below are by value,
+// over the changes in place.
 pub fn joins(mut t: Tables, p: u8, place: Place) -> Tables
     ensures { result ≡ joins p place t }
 {

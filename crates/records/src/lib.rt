@@ -32,7 +32,7 @@ pub fn number_of(a: u8, b: u8, c: u8, d: u8) -> u32
     u32::from_le_bytes([a, b, c, d])
 }
 
-// A record of zeros.
+// A record of zeros. (No derived Default: the library has none for 64 bytes.)
 fn zero_record() -> Record
     ensures { result ≡ zero_record }
 {

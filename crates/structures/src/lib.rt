@@ -107,7 +107,8 @@ fn created_ring(t: Tables, size: u16) -> Step
     numbered_as(next, n, Kind::Ring(b))
 }
 
-// Create structure: kind 1 is binary with value 0 or 1, 2 counting with value 0 to 32,767, 3 a ring of size 1 to 256.
+// Create structure: kind 1 is binary with value 0 or 1, 2 counting with value 0 to 32,767, 3 a ring of size 1 to 256. The kind
+// stays the request's byte: the contract speaks of every number, and the arms are where it is read.
 #[tactic(auto, unfolding(crate::specs::Structures::created))]
 pub fn created(t: Tables, kind: u8, amount: u32) -> Step
     ensures { result ≡ created kind amount t }

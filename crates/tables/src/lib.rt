@@ -66,6 +66,7 @@ pub enum Place {
 #[derive(Clone, Copy)]
 pub struct Process {
     pub priority: u8,
+    // Apart from the place: whoever waits or sleeps may be suspended too, and `place_code` counts it so.
     pub suspended: bool,
     pub place: Place,
 }
@@ -96,7 +97,8 @@ pub enum Line {
     Sleepers,
 }
 
-// All that the panel holds. The order has the live processes, each once, from the one that joined a line first to the
+// All that the panel holds. Nobody runs where `running` is 0, and no `None`: `Tables` is what all definitions speak of, and the
+// state's bytes have that 0. The order has the live processes, each once, from the one that joined a line first to the
 // one that did so last, behind as many zeros as numbers are free.
 #[derive(Clone, Copy)]
 pub struct Tables {
@@ -222,7 +224,8 @@ pub fn with_parcel(mut t: Tables, p: u8, parcel: Parcel) -> Tables
     t
 }
 
-// Document 01's number of a place, 0 for nowhere.
+// Document 01's number of a place, 0 for nowhere. No `From`, which should lose nothing: the number leaves out what the place
+// carries. So does that of a kind.
 pub fn code_of(place: Place) -> u8
     ensures { result ≡ code place }
 {
@@ -248,7 +251,7 @@ pub fn spot_of(place: Place) -> u8
     }
 }
 
-// The place code that process state answers.
+// The place code that process state answers: 16 is added to a number, as the definition has it, so the test is of the number.
 pub fn place_code(process: Process) -> u8
     ensures { result ≡ place_code process }
 {
@@ -349,7 +352,7 @@ pub fn head_of(t: &Tables, which: Line) -> Option<u8>
     first_in(&t.order, &t.processes, which)
 }
 
-// A line in its order, zeros behind it.
+// A line in its order, zeros behind it: `padded` has 32 numbers, in fixed memory.
 pub fn line_of(t: &Tables, which: Line) -> [u8; 32]
     ensures { result ≡ padded (line which t.now) }
 {
