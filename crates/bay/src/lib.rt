@@ -63,7 +63,7 @@ pub fn ring_of_size(size: u16) -> Ring
 }
 
 // Whether these are the numbers of a ring: a size of at most 256, a start below it, no more held than it. It takes three
-// numbers and no ring, since its contract holds of any.
+// numbers and no ring: its clause, `in_range start size held`, is of any three.
 pub fn in_range(start: u16, size: u16, held: u16) -> bool
     ensures { result ≡ in_range start size held }
 {

@@ -54,7 +54,8 @@ pub enum Callers {
     Either,
 }
 
-// What the number N is.
+// What the number N is. Here and below a field that is not used is a case of its own, as the call table has it (`number_fits`,
+// `small_fits`, `amount_fits` and `data_fit` of Refusals speak of it), and no `None`.
 #[derive(Clone, Copy, PartialEq, Eq)]
 pub enum Number {
     Unused,

@@ -66,7 +66,7 @@ fn amount_of(place: Place) -> u32
 }
 
 // The place with this number, structure and amount. The numbers are those of the state's layout, and any other reads as
-// nowhere (`place_of`), so this is no `TryFrom`. So with a kind.
+// nowhere (`place_of`), so this is no `TryFrom`. An amount above a byte is cut as there. So with a kind.
 #[tactic(auto, using(std::proofs::lemmas::Bool::Decides::nat_tests), unfolding(crate::specs::Layout::place_of))]
 fn place_of(code: u8, n: u8, k: u32) -> Place
     ensures { result ≡ place_of code n k }
@@ -96,7 +96,7 @@ fn process_from(bytes: &[u8; 8]) -> Process
     }
 }
 
-// A structure's value; of a ring, its bay.
+// A structure's value; of a ring, its bay (semaphores' `value` has 0 there).
 fn value_of(kind: Kind) -> u16
     ensures { result ≡ value_of kind }
 {
@@ -239,7 +239,8 @@ impl Stored<64> for Parcel {
     }
 }
 
-// The entries of a table into s, one behind the other, from its byte `at` on.
+// The entries of a table into s, one behind the other, from its byte `at` on. (Through `chunks_exact_mut` a proof knows no byte
+// that was written.)
 #[tactic(auto, using(crate::proofs::Laws::written_room))]
 fn write_entries<T: Stored<N>, const N: usize>(s: &mut [u8], at: usize, entries: &[T])
     requires { at + length entries.now * N ≤ length s.old }
@@ -252,7 +253,7 @@ fn write_entries<T: Stored<N>, const N: usize>(s: &mut [u8], at: usize, entries:
     }
 }
 
-// The control part into a buffer of a state's length: running, order, processes, structures. Any other buffer stays as it is.
+// The control part, field by field since no other is read (`control_to`), into a buffer of a state's length: running, order, processes, structures. Any other buffer stays as it is.
 #[tactic(auto, unfolding(crate::specs::Layout::control_to))]
 pub fn write_control(
     s: &mut [u8],
@@ -297,8 +298,8 @@ fn entries<const N: usize>(s: &[u8; LENGTH], from: usize, to: usize) -> &[[u8; N
     s[from..to].as_chunks().0
 }
 
-// The tables that stand in s; fresh ones where it has another length than a state's. Each entry is set in its place: a
-// whole table from a helper would be copied once more.
+// The tables that stand in s; fresh ones where it has another length than a state's. Each entry is set in its place, by
+// its index: a whole table from a helper would be copied once more, and through `iter_mut().zip(..)` a proof knows no entry.
 #[tactic(auto, using(crate::specs::Laws::decode_short), unfolding(crate::specs::Pieces::entries))]
 pub fn read(s: &[u8]) -> Tables
     ensures { result ≡ decode s.now }
@@ -394,8 +395,8 @@ fn holding_kept(bytes: &[u8; 2]) -> bool
     (flag == 1) | ((flag == 0) & (length == 0))
 }
 
-// Does it of the bytes of each process, of each structure, of what each parcel holds? Three functions and not one with the test
-// as a parameter: its bound would name the width, which Rattle refuses.
+// Does it of the bytes of each process, of each structure, of what each parcel holds? One function with the test as a parameter was tried:
+// its bound names the width, and gets no proof.
 fn processes_kept(s: &[u8; LENGTH]) -> bool
     ensures { result ≡ list_all process_kept (entries 32 (λ i. part s.now (processes_at + i * 8) 8)) }
 {

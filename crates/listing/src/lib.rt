@@ -13,7 +13,7 @@ use std::marker::Model;
 pub const ROOM: usize = 40;
 
 // A line of text: that of a request with this call and this reply.
-#[derive(Drop)]
+#[derive(Clone, Drop)]
 pub struct Line {
     call: u8,
     reply: Record,

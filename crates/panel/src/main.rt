@@ -3,8 +3,9 @@
 // with its error.
 #![tactic(auto)]
 
+use std::fmt::Write;
 use std::io;
-use std::io::{BufWriter, Read, Write};
+use std::io::Read;
 
 // The bytes of a record.
 const RECORD: usize = records::LENGTH;
@@ -14,15 +15,15 @@ const ROUND: usize = 910 * RECORD;
 
 const LINES: usize = 910 * listing::ROOM;
 
-// Plays the whole records of the input; a line for each.
-fn play(state: &mut [u8], input: &[u8], lines: &mut impl Write) -> io::Result<()> {
+// Plays the whole records of the input; a line for each behind the text.
+fn play(state: &mut [u8], input: &[u8], lines: &mut String) -> io::Result<()> {
     let mut reply = [0u8; RECORD];
     let (requests, _) = input.as_chunks::<RECORD>();
     for request in requests {
         kernel::brombeertor_call(state, request, &mut reply);
         write!(lines, "{}", listing::line_for(request[0], &reply))?;
     }
-    lines.flush()
+    Ok(())
 }
 
 // The last line, where bytes are left over.
@@ -33,16 +34,19 @@ fn left_over(rt: &impl Print, n: usize) -> io::Result<()> {
     println!(rt; "short {n}")
 }
 
-// A round that reads less than it may is the last one: the input has ended.
+// A round that reads less than it may is the last one: the input has ended. (A loop over input goes by a count, since each loop is
+// proved to end.)
 fn main(rt: HostRuntime) -> io::Result<()> {
     let mut state = [0u8; layout::LENGTH];
     kernel::brombeertor_fresh(&mut state);
     let mut input = Vec::with_capacity(rt.alloc(), ROUND)?;
-    let mut lines = BufWriter::with_capacity(rt.alloc(), LINES, rt.stdout())?;
+    let mut lines = String::with_capacity(rt.alloc(), LINES)?;
     for _ in 0..u64::MAX {
         input.clear();
         let got = rt.stdin().take(ROUND as u64).read_to_end(&mut input)?;
+        lines.clear();
         play(&mut state, input.as_slice(), &mut lines)?;
+        rt.write_all(lines.as_bytes())?;
         if got < ROUND {
             return left_over(&rt, got % RECORD);
         }

@@ -55,8 +55,8 @@ fn run(t: &mut Tables, p: u8)
     t.running = p;
 }
 
-// The tables after process p joined a line. The steps take and give the tables by value, so this and those below are by value,
-// over the changes in place.
+// The tables after process p joined a line. This and those below are by value, over the changes in place: their
+// clauses, as `joins`, are equations of the result, and so are those of the steps.
 pub fn joins(mut t: Tables, p: u8, place: Place) -> Tables
     ensures { result ≡ joins p place t }
 {

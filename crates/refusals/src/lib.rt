@@ -108,7 +108,8 @@ fn small_fits(small: Small, l: u8) -> bool
     }
 }
 
-// Is M a start value or a size for this kind?
+// Is M a start value or a size for this kind, by its number in the request? `structures::created` reads the same ranges to make
+// the kind; the definitions `start_fits` and `created` each have them.
 #[tactic(auto, unfolding(crate::specs::Refusals::start_fits))]
 fn start_fits(kind: u8, m: u32) -> bool
     ensures { result ≡ start_fits kind m }
@@ -127,7 +128,8 @@ fn amount_fits(amount: Amount, l: u8, m: u32) -> bool
     }
 }
 
-// Are all data bytes from this one on zero?
+// Are all data bytes from this one on zero? At most 64 of one request, so it may stop at the first; sound's `is_zero` looks at all
+// that a state has.
 fn zero_from(bytes: &[u8], from: u8) -> bool
     ensures { result ≡ list_all (λ b. b == 0) (drop from bytes.now) }
 {
@@ -215,7 +217,7 @@ fn is_full(kind: Kind) -> bool
     matches!(kind, Kind::Counting(32767))
 }
 
-// Is the caller a process whose parcel holds uncollected bytes?
+// Is the caller, 1 for a process as in the request, one whose parcel holds uncollected bytes?
 fn uncollected(t: &Tables, who: u8) -> bool
     ensures { result ≡ both (eqb who 1) (holds_bytes (parcel_for t.now t.now.running).holds) }
 {

@@ -69,7 +69,8 @@ pub enum Way {
     Blocked,
 }
 
-// The two forms of a transfer: where the way is blocked the caller waits, or it is answered that nothing was performed.
+// The two forms of a transfer, which `put_in` and `got` take: a function for each form would keep a third out of line, with copies
+// of the tables in each frame. The forms: where the way is blocked the caller waits, or it is answered that nothing was performed.
 #[derive(Clone, Copy)]
 pub enum Form {
     Waiting,
@@ -86,7 +87,7 @@ pub fn asked_in(place: Place) -> u8
     }
 }
 
-// The lengths of all processes.
+// The lengths of all processes, as the definition `lengths_of` has them.
 #[tactic(auto, unfolding(crate::specs::Serving::lengths_of))]
 fn lengths_of(t: Tables) -> [u8; 32]
     ensures { result ≡ lengths_of t }
@@ -94,14 +95,14 @@ fn lengths_of(t: Tables) -> [u8; 32]
     t.processes.map(|process| asked_in(process.place))
 }
 
-// The head of a line, or nobody: 0, as behind the lines that the tables give.
+// The head of a line, or nobody: 0, as the definition `first` has it.
 fn head(line: &[u8]) -> u8
     ensures { result ≡ first line.now }
 {
     line.first().copied().unwrap_or(0)
 }
 
-// Can p, the head getter, be served: does it want no more than is held?
+// Can p, the head getter, be served: does it want no more than is held? Nobody, 0, cannot (the clause says so of any p).
 pub fn getter_goes(p: u8, l: u8, held: u16) -> bool
     ensures { result ≡ cond (eqb p 0) false (leb l held) }
 {
@@ -138,7 +139,8 @@ impl<'a> Turns<'a> {
         Some(p)
     }
 
-    // The head putter, if there is room for what it brings: it is out of its line then.
+    // The head putter, if there is room for what it brings: it is out of its line then. It differs from the getter in line, test
+    // and sign: one function with these as parameters would be longer.
     #[tactic(auto, using(crate::proofs::Laws::putter_test, crate::proofs::Laws::behind), unfolding(crate::specs::Serving::length_for))]
     fn putter(&mut self) -> Option<u8>
         ensures { PutterTurn self.old result self.new }
@@ -201,7 +203,8 @@ fn serve(t: &mut Tables, ring: &mut Ring, p: u8)
     }
 }
 
-// If the head getter wants no more than is held, it is served, and then again; if not, it is the head putter's turn.
+// If the head getter wants no more than is held, it is served, and then again; if not, it is the head putter's turn. (Document
+// 01 names the form, serve-getter and serve-putter call each other: an iterator over the two lines was tried, and went.)
 #[cycle(serving)]
 fn serve_getter(t: &mut Tables, ring: &mut Ring, turns: &mut Turns)
     ensures all_served { (b : ℕ) → IsRingOf b ring.old t.old → with_ring t.new b ring.new ≡ services b (to_come turns.old) (with_ring t.old b ring.old) }
@@ -275,7 +278,7 @@ fn parcel_of(mut bytes: [u8; 64], l: u8) -> Parcel
 
 // Is this a length that a transfer at a ring of this size may have?
 #[tactic(auto, unfolding(crate::specs::Rings::allowed))]
-fn allowed(l: u8, size: u16) -> bool
+pub fn allowed(l: u8, size: u16) -> bool
     ensures { result ≡ allowed l size }
 {
     (1..=64).contains(&l) && u16::from(l) <= size

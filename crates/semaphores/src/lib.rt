@@ -114,7 +114,7 @@ pub fn waited(t: Tables, n: u8) -> Step
     }
 }
 
-// Conditional wait: as wait if the value is above 0. (Not by a call of `waited`, which would copy the tables once more.)
+// Conditional wait: as wait if the value is above 0. (A call of `waited` was tried: it copies the tables once more.)
 #[tactic(auto, unfolding(crate::specs::Semaphores::conditionally_waited, crate::specs::Semaphores::waited, crate::specs::Semaphores::waited_at))]
 pub fn conditionally_waited(t: Tables, n: u8) -> Step
     ensures { result ≡ conditionally_waited n t }
@@ -148,7 +148,7 @@ pub fn signalled(t: Tables, n: u8) -> Step
     }
 }
 
-// Conditional signal: as signal if there is a line. (Not by a call of `signalled`, which would look for its head once more.)
+// Conditional signal: as signal if there is a line. (A call of `signalled` was tried: it looks for the head once more.)
 #[tactic(auto, unfolding(crate::specs::Semaphores::conditionally_signalled, crate::specs::Semaphores::signalled, crate::specs::Semaphores::signalled_at, crate::specs::Semaphores::has_line, ready::specs::Ready::let_through))]
 pub fn conditionally_signalled(t: Tables, n: u8) -> Step
     ensures { result ≡ conditionally_signalled n t }

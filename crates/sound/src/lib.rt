@@ -64,26 +64,15 @@ fn counts_of(numbers: &[u8]) -> [u8; 256]
     counts
 }
 
-// Process p, what structure n is, and the ring in bay b; nobody, free or an empty bay where there is no such number.
-fn process_at(t: &Tables, p: u8) -> Process
-    ensures { result ≡ numbered t.now.processes p nobody }
-{
-    tables::numbered(&t.processes, p, tables::nobody())
-}
-
+// What structure n is; free where there is no such number. (`tables::structure_at` in the definition's word.)
+#[tactic(auto, unfolding(tables::specs::Access::structure_of))]
 fn kind_at(t: &Tables, n: u8) -> Kind
     ensures { result ≡ kind_at t.now.structures n }
 {
-    tables::numbered(&t.structures, n, tables::nothing()).kind
+    tables::structure_at(t, n).kind
 }
 
-fn ring_at(t: &Tables, b: u8) -> Ring
-    ensures { result ≡ ring_at t.now.rings b }
-{
-    tables::numbered(&t.rings, b, bay::empty_bay())
-}
-
-// The bay of a ring; 0 of any other structure.
+// The bay of a ring; 0 of any other structure, as the definition `bay_of` has it.
 fn bay_of(kind: Kind) -> u8
     ensures { result ≡ bay_of kind }
 {
@@ -101,12 +90,12 @@ fn bays_of(structures: &[Structure; 24]) -> [u8; 24]
 }
 
 // Is structure n a ring of at least this length, and the length 1 to 64?
-#[tactic(auto, unfolding(crate::specs::Tested::asks_tested))]
+#[tactic(auto, unfolding(crate::specs::Tested::asks_tested, tables::specs::Access::ring_in, rings::specs::Rings::allowed))]
 fn asks_fits(t: &Tables, n: u8, l: u8) -> bool
     ensures { result ≡ asks_tested (kind_at t.now.structures n) (ring_at t.now.rings (bay_of (kind_at t.now.structures n))).size l }
 {
     match kind_at(t, n) {
-        Kind::Ring(b) => (1..=64).contains(&l) && l as u16 <= ring_at(t, b).size,
+        Kind::Ring(b) => rings::allowed(l, tables::ring_in(t, b).size),
         _ => false,
     }
 }
@@ -141,11 +130,11 @@ fn parcel_fits(parcel: &Parcel) -> bool
 
 // Is process p, which is listed so many times, listed as often as it is live, does it run exactly where its place is
 // Running, and does all that goes with its place fit?
-#[tactic(auto, unfolding(crate::specs::Tested::placed_tested, crate::specs::Tested::listed_tested, crate::specs::Tested::runs_tested))]
+#[tactic(auto, unfolding(tables::specs::Access::process_of, crate::specs::Tested::placed_tested, crate::specs::Tested::listed_tested, crate::specs::Tested::runs_tested))]
 fn process_fits(t: &Tables, p: u8, times: u8) -> bool
     ensures { result ≡ placed_tested times t.now p }
 {
-    let process = process_at(t, p);
+    let process = tables::process_at(t, p);
     let parcel = tables::numbered(&t.parcels, p, bay::empty_parcel());
     times == u8::from(process.place != Place::Nowhere)
         && (t.running == p) == (process.place == Place::Running)
@@ -274,7 +263,7 @@ fn heads_of(t: &Tables) -> [Heads; 256]
         putter: 0,
     }; 256];
     for x in t.order.iter().rev() {
-        match process_at(t, *x).place {
+        match tables::process_at(t, *x).place {
             Place::Getting(n, _) => heads[n as usize].getter = *x,
             Place::Putting(n, _) => heads[n as usize].putter = *x,
             _ => {}
@@ -284,15 +273,15 @@ fn heads_of(t: &Tables) -> [Heads; 256]
 }
 
 // Could neither of these heads of ring n's lines be served? Of another structure there are none.
-#[tactic(auto, unfolding(crate::specs::Tested::heads_wait, crate::specs::Tested::neither_goes))]
+#[tactic(auto, unfolding(tables::specs::Access::process_of, tables::specs::Access::ring_in, crate::specs::Tested::heads_wait, crate::specs::Tested::neither_goes))]
 fn heads_wait(t: &Tables, n: u8, heads: Heads) -> bool
     ensures { result ≡ heads_wait heads.getter heads.putter t.now (kind_at t.now.structures n) }
 {
     match kind_at(t, n) {
         Kind::Ring(b) => {
-            let ring = ring_at(t, b);
-            let wants = rings::asked_in(process_at(t, heads.getter).place);
-            let brings = rings::asked_in(process_at(t, heads.putter).place);
+            let ring = tables::ring_in(t, b);
+            let wants = rings::asked_in(tables::process_at(t, heads.getter).place);
+            let brings = rings::asked_in(tables::process_at(t, heads.putter).place);
             !rings::getter_goes(heads.getter, wants, ring.held)
                 && !rings::putter_goes(heads.putter, brings, ring.held, ring.size)
         }
@@ -326,17 +315,6 @@ fn still(t: &Tables) -> bool
     (1..=24).all(|n| heads_wait(t, n, heads[n as usize]))
 }
 
-// How urgent the runner is; 0 where nobody runs.
-#[tactic(auto, unfolding(tables::specs::Lines::urgency))]
-fn runner_urgency(t: &Tables) -> u16
-    ensures { result ≡ urgency t.now.processes t.now.running }
-{
-    match t.running {
-        0 => 0,
-        p => process_at(t, p).priority as u16 + 1,
-    }
-}
-
 // Does a process, if it is ready, rank no higher than this?
 #[tactic(auto, unfolding(crate::specs::Tested::rank_tested))]
 fn rank_fits(top: u16, process: Process) -> bool
@@ -349,7 +327,7 @@ fn rank_fits(top: u16, process: Process) -> bool
 fn urgent(t: &Tables) -> bool
     ensures { result ≡ urgency_tested t.now.running t.now.processes }
 {
-    let top = runner_urgency(t);
+    let top = tables::urgency_of(&t.processes, t.running);
     t.processes.iter().all(|q| rank_fits(top, *q))
 }
 

@@ -26,7 +26,7 @@ use tables::{Kind, Structure, Tables};
 fn is_free(kind: Kind) -> bool
     ensures { result ≡ is_free kind }
 {
-    matches!(kind, Kind::Free)
+    !tables::is_live(kind)
 }
 
 // Is it a ring in bay b?
@@ -43,7 +43,8 @@ fn taken(structures: &[Structure; 24], b: u8) -> bool
     structures.iter().any(|s| is_in(b, s.kind))
 }
 
-// Where the first free structure stands.
+// Where the first free structure stands. (Processes have the same of theirs: one for both would take the test as a closure, and be
+// longer than the line.)
 fn first_free(structures: &[Structure; 24]) -> Option<usize>
     ensures { result ≡ position (λ s. is_free s.kind) structures.now }
 {
@@ -58,7 +59,7 @@ pub fn free_number(structures: [Structure; 24]) -> Option<u8>
     Some(i as u8 + 1)
 }
 
-// The lowest free bay.
+// The lowest free bay. (By a `for`: a `find` over the numbers was tried, and did not prove.)
 pub fn free_bay(structures: [Structure; 24]) -> Option<u8>
     ensures { result ≡ somebody (free_bay structures) }
 {

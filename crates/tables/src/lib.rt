@@ -45,7 +45,8 @@ ghost use Rattle.tables.specs.Access.{
 
 use bay::{Parcel, Ring};
 
-// Where a live process is; a number that is not live is nowhere.
+// Where a live process is; a number that is not live is nowhere. Nowhere is a place and no `None`: each of the 32 numbers has an
+// entry, and its place code is 0 (`code`). So is a free structure of a kind (`kind_number`).
 #[derive(Clone, Copy, PartialEq, Eq)]
 pub enum Place {
     Nowhere,
@@ -241,7 +242,7 @@ pub fn code_of(place: Place) -> u8
     }
 }
 
-// The structure at which a process in this place waits, or 0.
+// The structure at which a process in this place waits, or 0: the definition `spot` and the state's bytes have that 0.
 pub fn spot_of(place: Place) -> u8
     ensures { result ≡ spot place }
 {
@@ -338,7 +339,8 @@ pub fn stands(processes: &[Process; 32], x: u8, which: Line) -> bool
     stands_in(x, processes[entry_of(x)].place, which)
 }
 
-// The first of the order who stands in the line, if anybody does.
+// The first of the order who stands in the line, if anybody does. Here and below order and processes are taken apart: a chain over
+// a field of tables was tried, and did not prove.
 fn first_in(order: &[u8; 32], processes: &[Process; 32], which: Line) -> Option<u8>
     ensures { result ≡ find (standing which processes.now) order.now }
 {
@@ -352,7 +354,7 @@ pub fn head_of(t: &Tables, which: Line) -> Option<u8>
     first_in(&t.order, &t.processes, which)
 }
 
-// A line in its order, zeros behind it: `padded` has 32 numbers, in fixed memory.
+// A line in its order, zeros behind it: `padded` has 32 numbers, in fixed memory. Here k counts members, and no place.
 pub fn line_of(t: &Tables, which: Line) -> [u8; 32]
     ensures { result ≡ padded (line which t.now) }
 {
@@ -399,7 +401,7 @@ pub fn in_lines_of(t: &Tables, n: u8) -> u8
 }
 
 // How urgent the process with number x is: nobody 0, a process 1 more than its priority.
-fn urgency_of(processes: &[Process; 32], x: u8) -> u16
+pub fn urgency_of(processes: &[Process; 32], x: u8) -> u16
     ensures { result ≡ urgency processes.now x }
 {
     if x == 0 {
@@ -408,7 +410,8 @@ fn urgency_of(processes: &[Process; 32], x: u8) -> u16
     u16::from(numbered(processes, x, nobody()).priority) + 1
 }
 
-// The head of the ready line, if it has one: of the most urgent the one that came first.
+// The head of the ready line, if it has one: of the most urgent the one that came first. (The library's maximum is the last of
+// equals.)
 pub fn ready_head(t: &Tables) -> Option<u8>
     ensures { result ≡ somebody (first (ready_line t.now)) }
 {

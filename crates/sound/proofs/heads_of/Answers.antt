@@ -1,3 +1,4 @@
+use Rattle.tables.specs.Access.{process_of}
 use Rattle.std.proofs.Common.{rules, ◌≡◌, ◌∙◌, sym, ap, refl, map, reverse, arith}
 use Rattle.std.proofs.lemmas.List.{map-set, reverse-reverse}
 use Rattle.std.proofs.lemmas.Iterator.Adapters.{YieldsList-from_rev_slice}
@@ -16,6 +17,7 @@ pub loop-x-init : goal.loop-x-init
 loop-x-init c = record { getters = no_heads 5 c.args.t.now.processes; putters = no_heads 6 c.args.t.now.processes }
 
 pub loop-x-preserved-in-Getting : goal.loop-x-preserved-in-Getting
+unfolding process_of
 loop-x-preserved-in-Getting c =
     let l = c.loop-x in
     let at : place_at c.args.t.now.processes c.in-Some.x.now ≡ Getting c.in-Getting.n c.in-Getting.field-1 = ap (λ (q : Process). q.place) (sym c.process_at.ensures) ∙ c.in-Getting.is in
@@ -25,6 +27,7 @@ loop-x-preserved-in-Getting c =
     }
 
 pub loop-x-preserved-in-Putting : goal.loop-x-preserved-in-Putting
+unfolding process_of
 loop-x-preserved-in-Putting c =
     let l = c.loop-x in
     let at : place_at c.args.t.now.processes c.in-Some.x.now ≡ Putting c.in-Putting.n c.in-Putting.field-1 = ap (λ (q : Process). q.place) (sym c.process_at.ensures) ∙ c.in-Putting.is in
@@ -34,6 +37,7 @@ loop-x-preserved-in-Putting c =
     }
 
 pub loop-x-preserved : goal.loop-x-preserved
+unfolding process_of
 loop-x-preserved c =
     let l = c.loop-x in
     let off = rw c.process_at.ensures at (off_ring c.process_at.result.place c.in_default.not-Getting c.in_default.not-Putting) in

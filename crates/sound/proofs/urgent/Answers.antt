@@ -10,5 +10,5 @@ pub returns : goal.returns
 returns c =
     let l = c.args.t.now.processes in
     let long : length l ≡ 32 = search (len_map, rules) in
-    all_from_yields_List (λ q. rank_tested c.runner_urgency-top.result (q.priority + 1) q.place) _ _ _ c.all.ensures.ran (YieldsList-from_slice l (cc)) (λ x b q k. search rules)
-    ∙ urgent_told c.args.t.now.running l long c.runner_urgency-top.ensures
+    all_from_yields_List (λ q. rank_tested c.urgency_of-top.result (q.priority + 1) q.place) _ _ _ c.all.ensures.ran (YieldsList-from_slice l (cc)) (λ x b q k. search rules)
+    ∙ urgent_told c.args.t.now.running l long c.urgency_of-top.ensures
