@@ -14,7 +14,8 @@ pub struct Parcel {
     pub holds: Option<u8>,
 }
 
-// A ring in its bay, a true circle of the bay's first `size` bytes: `held` bytes from `start` on, round the end.
+// A ring in its bay, a true circle of the bay's first `size` bytes: `held` bytes from `start` on, round the end. The bay is fixed
+// memory, and the state's layout has its three numbers, so no queue of the library takes its place.
 #[derive(Clone, Copy)]
 pub struct Ring {
     pub bytes: [u8; 256],

@@ -81,7 +81,8 @@ fn refuse_if(applies: bool, refusal: Refusal) -> Result<(), Refusal>
     if applies { Err(refusal) } else { Ok(()) }
 }
 
-// Does the caller make a request that it may not make, or is it nobody?
+// Does the caller make a request that it may not make, or is it nobody? The caller is the request's byte, as in
+// `calls::is_allowed`.
 #[tactic(auto, unfolding(crate::specs::Refusals::wrong_caller))]
 fn wrong_caller(row: Row, caller: u8, running: u8) -> bool
     ensures { result ≡ wrong_caller row caller running }

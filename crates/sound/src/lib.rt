@@ -246,7 +246,7 @@ fn settled(t: &Tables) -> bool
         && bays_fit(t)
 }
 
-// The head getter and the head putter of a ring's lines, or nobody.
+// The head getter and the head putter of a ring's lines, or nobody: 0, as the definition `heads_of` has it.
 #[derive(Clone, Copy)]
 struct Heads {
     getter: u8,
@@ -289,7 +289,7 @@ fn heads_wait(t: &Tables, n: u8, heads: Heads) -> bool
     }
 }
 
-// Is this place in no line of a ring?
+// Is this place in no line of a ring? (The definition `off_rings`; `at_ring` of rings is its contrary, for one of the order.)
 #[tactic(auto, unfolding(crate::specs::Tested::off_rings))]
 fn off_rings(place: Place) -> bool
     ensures { result ≡ off_rings place }

@@ -100,7 +100,7 @@ pub enum Line {
 
 // All that the panel holds. Nobody runs where `running` is 0, and no `None`: `Tables` is what all definitions speak of, and the
 // state's bytes have that 0. The order has the live processes, each once, from the one that joined a line first to the
-// one that did so last, behind as many zeros as numbers are free.
+// one that did so last, behind as many zeros as numbers are free: 32 bytes of the state, in fixed memory.
 #[derive(Clone, Copy)]
 pub struct Tables {
     pub running: u8,

@@ -34,7 +34,8 @@ impl<'a, R: Print> Board<'a, R> {
         Ok(Board { rt, state })
     }
 
-    // One request: its line is printed.
+    // One request: its line is printed. Its numbers come one by one, so that a case reads as a table: named fields would take a
+    // line each.
     fn ask(&mut self, call: u8, caller: u8, n: u8, l: u8, m: u32) -> io::Result<()> {
         let asked = Record {
             what: call,
