@@ -24,7 +24,7 @@ pub struct Record {
     pub bytes: [u8; DATA],
 }
 
-// The number of four bytes, low byte first. (Public before the library had it; its clause is in the definitions' word.)
+// The number of four bytes, low byte first. (Public, so it stays; its clause is in the definitions' word.)
 #[tactic(auto, unfolding(crate::specs::Records::number))]
 pub fn number_of(a: u8, b: u8, c: u8, d: u8) -> u32
     ensures { result ≡ number (a ∷ b ∷ c ∷ d ∷ []) }
