@@ -1,15 +1,12 @@
--- A line in a buffer of its room, for a board that has no heap to make a text in: its bytes, with zeros behind them, and how many they are.
+-- A line in its room: its bytes, with zeros behind them, and how many they are.
 -- Assumes nothing.
-use Rattle.std.specs.Prelude.{ℕ, ◌+◌, ◌-◌, ◌^◌, ◌≤◌, ◌<◌, ◌≡◌, refl, cond, List, [], ◌∷◌, ◌++◌, ltb, length, set, replicate, suc}
+use Rattle.std.specs.Prelude.{ℕ, ◌+◌, ◌-◌, ◌^◌, ◌≤◌, ◌<◌, ◌≡◌, refl, cond, List, [], ◌∷◌, ◌++◌, ltb, length, set, replicate, take, suc}
 use Rattle.std.proofs.Common.{append_assoc, append-nil, arith, lt-ltb, length-append}
-use Rattle.std.proofs.Math.Seq.{set-append_seam}
+use Rattle.std.proofs.Math.Seq.{set-append_seam, take-append_seam}
 use Rattle.records.specs.declared.Record.{Record}
+use Rattle.listing.specs.declared.Line.{Line}
 use Rattle.listing.specs.Listing.{room, line_of}
 use Rattle.listing.specs.Laws.{line_long}
-
-pub record Line : Type 0 where
-  pub bytes : List ℕ
-  pub length : ℕ
 
 -- A text in a line's room, with zeros behind it
 unfoldable pub lined : List ℕ → Line
@@ -52,6 +49,11 @@ written_whole text h = written_lined [] text (omega arith)
 pub lined_within : {l : Line} (text : List ℕ) → l ≡ lined text → l.length ≤ length l.bytes
 unfolding lined
 lined_within text e = rw (e, length-append) (omega arith)
+
+-- It prints as its text
+pub lined_text : (text : List ℕ) → take (lined text).length (lined text).bytes ≡ text
+unfolding lined
+lined_text text = take-append_seam text (replicate (room - length text) 0)
 
 -- What panel prints for a reply finds room
 pub line_fits : (call : ℕ) (r : Record) → call < 256 → r.what < 256 → r.who < 256 → r.n < 256 → r.l < 256 → r.m < 2 ^ 32 → written (lined []) (line_of call r) ≡ lined (line_of call r)

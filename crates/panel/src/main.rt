@@ -3,7 +3,9 @@
 // with its error.
 #![tactic(auto)]
 
-use std::fmt::Write;
+ghost use Rattle.std.specs.Prelude.{◌≤◌, ◌≡◌, length};
+
+use listing::Line;
 use std::io;
 use std::io::Read;
 
@@ -15,15 +17,26 @@ const ROUND: usize = 910 * RECORD;
 
 const LINES: usize = 910 * listing::ROOM;
 
-// Plays the whole records of the input; a line for each behind the text.
-fn play(state: &mut [u8], input: &[u8], lines: &mut String) -> io::Result<()> {
+// Copies a line to where there is room for it, as far as there is; answers how many bytes that is.
+fn append(room: &mut [u8], line: Line) -> usize
+    ensures within { result ≤ length room.old }
+    ensures kept { length room.new ≡ length room.old }
+{
+    let n = line.length.min(listing::ROOM).min(room.len());
+    room[..n].copy_from_slice(&line.bytes[..n]);
+    n
+}
+
+// Plays the whole records of the input. Their lines, one behind the other, begin the room, and are the answer.
+fn play<'a>(state: &mut [u8], input: &[u8], room: &'a mut [u8]) -> &'a [u8] {
     let mut reply = [0u8; RECORD];
+    let mut end = 0;
     let (requests, _) = input.as_chunks::<RECORD>();
     for request in requests {
         kernel::brombeertor_call(state, request, &mut reply);
-        write!(lines, "{}", listing::line_for(request[0], &reply))?;
+        end += append(&mut room[end..], listing::line_for(request[0], &reply));
     }
-    Ok(())
+    &room[..end]
 }
 
 // The last line, where bytes are left over.
@@ -40,13 +53,11 @@ fn main(rt: HostRuntime) -> io::Result<()> {
     let mut state = [0u8; layout::LENGTH];
     kernel::brombeertor_fresh(&mut state);
     let mut input = Vec::with_capacity(rt.alloc(), ROUND)?;
-    let mut lines = String::with_capacity(rt.alloc(), LINES)?;
+    let mut lines = [0u8; LINES];
     for _ in 0..u64::MAX {
         input.clear();
         let got = rt.stdin().take(ROUND as u64).read_to_end(&mut input)?;
-        lines.clear();
-        play(&mut state, input.as_slice(), &mut lines)?;
-        rt.write_all(lines.as_bytes())?;
+        rt.write_all(play(&mut state, input.as_slice(), &mut lines))?;
         if got < ROUND {
             return left_over(&rt, got % RECORD);
         }

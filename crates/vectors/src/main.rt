@@ -44,8 +44,8 @@ fn ended(file: &mut impl Read) -> io::Result<bool> {
 
 // One request: are its reply and its line the stored ones? An error is that of reading what is stored; the request was carried
 // out all the same.
+#[tactic(auto, using(listing::specs::Buffer::lined_within))]
 fn right(
-    alloc: Global,
     state: &mut [u8],
     request: &[u8],
     replies: &mut impl Read,
@@ -56,25 +56,24 @@ fn right(
     let Some(call) = request.first() else {
         return Ok(false);
     };
-    let line = format!(in alloc; "{}", listing::line_for(*call, &reply))?;
-    Ok(says(replies, &reply)? && says(lines, line.as_bytes())?)
+    let line = listing::line_for(*call, &reply);
+    Ok(says(replies, &reply)? && says(lines, &line.bytes[..line.length])?)
 }
 
 // A file of data/ that is read from its start, through a buffer.
-fn opened<R: Files + AllocGlobal>(
-    rt: &R,
-    name: &str,
-    kind: &str,
-) -> io::Result<BufReader<R::File>> {
-    let path = format!(in rt.alloc(); "{name}.{kind}")?;
-    BufReader::new(rt.alloc(), File::open(rt, path.as_str())?)
+fn opened<R: Files + AllocGlobal>(rt: &R, path: &str) -> io::Result<BufReader<R::File>> {
+    BufReader::new(rt.alloc(), File::open(rt, path)?)
 }
 
-// A stream: its requests one after the other on a fresh panel.
-fn stream(rt: &(impl Files + AllocGlobal + Print), name: &str) -> io::Result<()> {
-    let mut requests = opened(rt, name, "requests")?;
-    let mut replies = opened(rt, name, "replies")?;
-    let mut lines = opened(rt, name, "lines")?;
+// A stream: its requests one after the other on a fresh panel. The three files are named whole: a name made of two parts would
+// take memory, which can run out.
+fn stream(
+    rt: &(impl Files + AllocGlobal + Print),
+    [name, requests, replies, lines]: [&str; 4],
+) -> io::Result<()> {
+    let mut requests = opened(rt, requests)?;
+    let mut replies = opened(rt, replies)?;
+    let mut lines = opened(rt, lines)?;
     let mut state = [0u8; layout::LENGTH];
     kernel::brombeertor_fresh(&mut state);
     let mut request = Vec::with_capacity(rt.alloc(), LENGTH)?;
@@ -91,13 +90,7 @@ fn stream(rt: &(impl Files + AllocGlobal + Print), name: &str) -> io::Result<()>
             over = got;
             break;
         }
-        wrong += u32::from(!right(
-            rt.alloc(),
-            &mut state,
-            request.as_slice(),
-            &mut replies,
-            &mut lines,
-        )?);
+        wrong += u32::from(!right(&mut state, request.as_slice(), &mut replies, &mut lines)?);
         count += 1;
     }
     wrong += u32::from(!says_short(rt.alloc(), &mut lines, over)?);
@@ -107,8 +100,22 @@ fn stream(rt: &(impl Files + AllocGlobal + Print), name: &str) -> io::Result<()>
 }
 
 fn main(rt: HostRuntime) -> io::Result<()> {
-    for name in ["all", "edges", "full", "rings", "rubbish", "sems", "time"] {
-        stream(&rt, name)?;
+    let streams = [
+        ["all", "all.requests", "all.replies", "all.lines"],
+        ["edges", "edges.requests", "edges.replies", "edges.lines"],
+        ["full", "full.requests", "full.replies", "full.lines"],
+        ["rings", "rings.requests", "rings.replies", "rings.lines"],
+        [
+            "rubbish",
+            "rubbish.requests",
+            "rubbish.replies",
+            "rubbish.lines",
+        ],
+        ["sems", "sems.requests", "sems.replies", "sems.lines"],
+        ["time", "time.requests", "time.replies", "time.lines"],
+    ];
+    for files in streams {
+        stream(&rt, files)?;
     }
     Ok(())
 }
