@@ -40,7 +40,7 @@ newcomer [] n x e = absurd (omega arith)
 newcomer (a ∷ l) n x e = set_at l a [] x n (omega arith)
 
 -- The one at x's place goes
-cut_there : (x : ℕ) (l : List ℕ) (k : ℕ) → k ≡ ahead x l → cut k l ≡ without x l
+pub cut_there : (x : ℕ) (l : List ℕ) (k : ℕ) → k ≡ ahead x l → cut k l ≡ without x l
 unfolding without
 cut_there x l k e = ap (λ (i : ℕ). cut i l) e
 

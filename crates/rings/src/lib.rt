@@ -252,7 +252,7 @@ fn served_in_turn(mut t: Tables, n: u8, b: u8, answer: Answer) -> Step
     }
 }
 
-// The same, where nobody in the lines is to be served.
+// The lines of ring n are served, if anybody stands in them.
 #[tactic(auto, using(crate::proofs::Laws::none_waiting))]
 fn served(t: Tables, n: u8, b: u8, answer: Answer) -> Step
     ensures { result ≡ step (served n b t) answer }

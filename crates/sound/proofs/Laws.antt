@@ -87,7 +87,7 @@ ordered (x ∷ l) =
 
 -- ---- every number
 
-every_none : (f : ℕ → Bool) → every 0 f ≡ true
+pub every_none : (f : ℕ → Bool) → every 0 f ≡ true
 unfolding every
 every_none f = refl
 
@@ -144,7 +144,7 @@ pub each_number : {s : RangeInclusive ℕ} (n : ℕ) → s.start ≡ 1 → s.end
 each_number {s} n a e f = record { runs = inclusive n 1 s (ap (range_inclusive_len (λ x y. y - x) s.start s.end) f ∙ omega arith) (λ h. a) }
 
 -- Each entry of a list: the one with number k is the next one of a longer list
-next_entry : {A : Type 0} (l : List A) (x d : A) (k : ℕ) → 1 ≤ k → numbered l k d ≡ numbered (x ∷ l) (suc k) d
+pub next_entry : {A : Type 0} (l : List A) (x d : A) (k : ℕ) → 1 ≤ k → numbered l k d ≡ numbered (x ∷ l) (suc k) d
 unfolding numbered
 next_entry l x d k h =
     let next : suc k - 1 ≡ suc (k - 1) = omega arith in
@@ -193,7 +193,7 @@ one_counted l i h small =
     (λ k ne. sym (count_next l i k h ∙ rw (ne_eqb x k (λ q. ne (sym q))) (omega arith)))
 
 -- none comes more often than there are places
-count_most : (p : ℕ) (l : List ℕ) → count p l ≤ length l
+pub count_most : (p : ℕ) (l : List ℕ) → count p l ≤ length l
 count_most p [] = omega arith
 count_most p (a ∷ l) = elim (test (eqb a p)) [ holds e ↦ rw e (omega (arith, count_most p l)) | fails e ↦ rw e (omega (arith, count_most p l)) ]
 
@@ -201,7 +201,7 @@ pub counted_at : (l : List ℕ) (p : ℕ) → p < 256 → get_or (listings_of l)
 unfolding listings_of
 counted_at l p h = get_d_table 256 (λ k. count k l) p h
 
-length_listings : (l : List ℕ) → length (listings_of l) ≡ 256
+pub length_listings : (l : List ℕ) → length (listings_of l) ≡ 256
 unfolding listings_of
 length_listings l = length_table 256 (λ p. count p l)
 
@@ -292,7 +292,7 @@ length_at : (t : Tables) (p : ℕ) → length_for (lengths_of t) p ≡ asked (pl
 unfolding process_of
 length_at t p = length_of t p
 
-head_at : (c : ℕ) (ps : List Process) (order : List ℕ) (n : ℕ) → n < 256 → get_or (heads_of c ps order) n 0 ≡ first (keep (stands_in c ps n) order)
+pub head_at : (c : ℕ) (ps : List Process) (order : List ℕ) (n : ℕ) → n < 256 → get_or (heads_of c ps order) n 0 ≡ first (keep (stands_in c ps n) order)
 unfolding heads_of
 head_at c ps order n h = get_d_table 256 (λ k. first (keep (stands_in c ps k) order)) n h
 
