@@ -1,12 +1,10 @@
 -- Where x stands, and what a turn of the places from there on leaves, on lists of any length. Assumes nothing.
-use Rattle.std.proofs.Common.{◌≡◌, ◌==◌, ℕ, suc, ◌+◌, ◌-◌, ◌<◌, true, false, cond, Some, None, List, [], ◌∷◌, ◌++◌, length, get_or, slice_set, take, drop, refl, sym, ap, ◌∙◌, arith, add-one, eqb-true}
-use Rattle.std.proofs.lemmas.List.{take_at, drop_at, set_at}
+use Rattle.std.proofs.Common.{◌≡◌, ◌==◌, ℕ, ◌+◌, ◌-◌, ◌<◌, true, false, cond, Some, None, List, [], ◌∷◌, ◌++◌, length, get_or, slice_set, take, drop, refl, sym, ap, ◌∙◌, arith, add-one, eqb-true}
+use Rattle.std.proofs.lemmas.List.{take_at, drop_at}
 use lib.Seq.{take-suc, length-take-le}
 use Rattle.std.specs.List.{position}
 use Rattle.std.proofs.lemmas.List.Recursion.{is_position_or_len}
 use Rattle.std.proofs.lemmas.List.Quantifiers.{position-Some}
-use Rattle.std.proofs.lemmas.Slice.{put_mid-rotated}
-use borrow.Rule.Slice.PartMut.{put_mid, mid_of}
 use Rattle.basics.specs.Tests.{test, holds, fails}
 use Rattle.arrivals.specs.Order.{has, ahead, cut, without}
 use Rattle.arrivals.specs.Listed.{has_ahead}
@@ -34,20 +32,10 @@ module _ (x : ℕ) where
           | fails h ↦ h
         ]
 
--- A newcomer takes the place of the oldest, behind the others
-pub newcomer : (l : List ℕ) (n x : ℕ) → length l ≡ suc n → slice_set (drop 1 l ++ take 1 l) n x ≡ drop 1 l ++ (x ∷ [])
-newcomer [] n x e = absurd (omega arith)
-newcomer (a ∷ l) n x e = set_at l a [] x n (omega arith)
-
 -- The one at x's place goes
 pub cut_there : (x : ℕ) (l : List ℕ) (k : ℕ) → k ≡ ahead x l → cut k l ≡ without x l
 unfolding without
 cut_there x l k e = ap (λ (i : ℕ). cut i l) e
-
--- A turn of the places from x's on puts it last
-pub turned_last : (l : List ℕ) (k m x : ℕ) (ys : List ℕ) → k ≡ ahead x l → get_or l k 0 ≡ x → k < length l → length l ≡ k + m → ys ≡ drop 1 (mid_of k m l) ++ take 1 (mid_of k m l) → put_mid k m l ys ≡ without x l ++ (x ∷ [])
-turned_last l k m x ys place there within long e =
-    put_mid-rotated k m l ys 0 within (omega arith) e ∙ rw (there, ← cut_there x l k place)
 
 -- A turn the other way of the places up to x's puts it first, and a zero takes its place
 pub turned_first : (l : List ℕ) (k x : ℕ) (ys : List ℕ) → k ≡ ahead x l → k < length l

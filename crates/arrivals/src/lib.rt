@@ -2,8 +2,8 @@
 // each free place. Every line of the panel is a view of it.
 #![tactic(auto)]
 
-ghost use Rattle.std.specs.Prelude.{◌≡◌, ◌==◌, position};
-ghost use Rattle.arrivals.specs.Order.{joined, moved_last, deleted};
+ghost use Rattle.std.specs.Prelude.{◌≡◌, ◌==◌, ◌<◌, [], ◌∷◌, ◌++◌, position};
+ghost use Rattle.arrivals.specs.Order.{cut, joined, moved_last, deleted};
 
 // Where x stands, if it is listed.
 fn place_of(order: &[u8; 32], x: u8) -> Option<usize>
@@ -12,23 +12,32 @@ fn place_of(order: &[u8; 32], x: u8) -> Option<usize>
     order.iter().position(|y| *y == x)
 }
 
-// A new process joins: the oldest place, a zero, makes room, and x stands last.
-pub fn joined(mut order: [u8; 32], x: u8) -> [u8; 32]
-    ensures { result ≡ joined x order }
+// The one at place k goes, those behind it move up, and x stands last.
+fn moved_up(mut order: [u8; 32], k: usize, x: u8) -> [u8; 32]
+    requires { k < 32 }
+    ensures { result ≡ cut k order ++ (x ∷ []) }
 {
-    order.rotate_left(1);
+    order.copy_within(k + 1..32, k);
     order[31] = x;
     order
 }
 
+// A new process joins: the oldest place, a zero, makes room, and x stands last.
+#[tactic(auto, unfolding(crate::specs::Order::joined))]
+pub fn joined(order: [u8; 32], x: u8) -> [u8; 32]
+    ensures { result ≡ joined x order }
+{
+    moved_up(order, 0, x)
+}
+
 // x joins a line: it goes to the end. One that is not listed changes nothing.
-pub fn moved_last(mut order: [u8; 32], x: u8) -> [u8; 32]
+pub fn moved_last(order: [u8; 32], x: u8) -> [u8; 32]
     ensures { result ≡ moved_last x order }
 {
-    if let Some(k) = place_of(&order, x) {
-        order[k..].rotate_left(1);
+    match place_of(&order, x) {
+        Some(k) => moved_up(order, k, x),
+        None => order,
     }
-    order
 }
 
 // x is deleted: it goes, and there is one zero more in front. One that is not listed changes nothing.
