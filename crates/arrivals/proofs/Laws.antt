@@ -1,4 +1,4 @@
--- Where x stands, and what a turn of the places from there on leaves, on lists of any length. Assumes nothing.
+-- Where x stands, and what a turn of the places up to there leaves, on lists of any length. Assumes nothing.
 use Rattle.std.proofs.Common.{◌≡◌, ◌==◌, ℕ, ◌+◌, ◌-◌, ◌<◌, true, false, cond, Some, None, List, [], ◌∷◌, ◌++◌, length, get_or, slice_set, take, drop, refl, sym, ap, ◌∙◌, arith, add-one, eqb-true}
 use Rattle.std.proofs.lemmas.List.{take_at, drop_at}
 use lib.Seq.{take-suc, length-take-le}
@@ -37,7 +37,7 @@ pub cut_there : (x : ℕ) (l : List ℕ) (k : ℕ) → k ≡ ahead x l → cut k
 unfolding without
 cut_there x l k e = ap (λ (i : ℕ). cut i l) e
 
--- A turn the other way of the places up to x's puts it first, and a zero takes its place
+-- A turn of the places up to x's puts it first, and a zero takes its place
 pub turned_first : (l : List ℕ) (k x : ℕ) (ys : List ℕ) → k ≡ ahead x l → k < length l
     → ys ≡ drop (length (take (k + 1) l) - 1) (take (k + 1) l) ++ take (length (take (k + 1) l) - 1) (take (k + 1) l)
     → slice_set (ys ++ drop (k + 1) l) 0 0 ≡ 0 ∷ without x l

@@ -19,7 +19,7 @@ pub struct Line {
     pub length: usize,
 }
 
-// It prints as its text. One that somebody else made, with no text in it, does not print.
+// It prints as its text. One that somebody else made, of bytes that are no text, does not print.
 impl fmt::Display for Line {
     ghost use Rattle.std.specs.Prelude.{Some, take};
 

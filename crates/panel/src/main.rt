@@ -15,6 +15,7 @@ const RECORD: usize = records::LENGTH;
 // A round reads at most so many bytes, 910 records, and then writes as many lines.
 const ROUND: usize = 910 * RECORD;
 
+// Room for their text, in fixed memory, which cannot run out.
 const LINES: usize = 910 * listing::ROOM;
 
 // Copies a line to where there is room for it, as far as there is; answers how many bytes that is.
